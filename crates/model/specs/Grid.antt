@@ -1,0 +1,56 @@
+-- The prices at which a security may trade today.
+use Prim.Native.Nat.{ℕ, zero, suc, _+_, _-_, _*_, _/_, _%_, min}
+use mathlib.Core.Bool.{Bool, true, _&&_}
+use mathlib.Core.List.{List, [], _∷_}
+use lib.Dec.{leb, eqb}
+use Rattle.model.specs.Types.{OrderPrice, Market, Limit}
+use Rattle.model.specs.Numbers.{max-price}
+
+-- the tick, the indicative price, and the absolute and the static band, in percent
+pub record Settings : Type 0 where
+  pub tick : ℕ
+  pub indicative : ℕ
+  pub absolute : ℕ
+  pub static : ℕ
+
+-- p lies within the band of w percent about the reference c
+abbrev pub within : ℕ → ℕ → ℕ → Bool
+within w c p = leb (c * (100 - w)) (100 * p) && leb (100 * p) (c * (100 + w))
+
+-- p is a multiple of the tick, at most the highest price, and within the absolute band about the indicative price
+abbrev pub on-grid : Settings → ℕ → Bool
+on-grid g p = eqb (p % g .tick) 0 && (leb p max-price && within (g .absolute) (g .indicative) p)
+
+-- p taken down to a multiple of t
+abbrev pub down : ℕ → ℕ → ℕ
+down t p = (p / t) * t
+
+-- p taken up to a multiple of t
+abbrev pub up : ℕ → ℕ → ℕ
+up t p = ((p + (t - 1)) / t) * t
+
+-- the highest price of the grid
+abbrev pub highest : Settings → ℕ
+highest g = down (g .tick) (min max-price ((g .indicative * (100 + g .absolute)) / 100))
+
+-- the lowest price of the grid
+abbrev pub lowest : Settings → ℕ
+lowest g = up (g .tick) (up 100 (g .indicative * (100 - g .absolute)) / 100)
+
+-- how many prices the grid has
+abbrev pub count : Settings → ℕ
+count g = ((highest g - lowest g) / g .tick) + 1
+
+-- n prices from p up, a tick apart
+abbrev pub prices-from : ℕ → ℕ → ℕ → List ℕ
+prices-from t p zero = []
+prices-from t p (suc n) = p ∷ prices-from t (p + t) n
+
+-- every grid price, from the lowest up
+abbrev pub grid : Settings → List ℕ
+grid g = prices-from (g .tick) (lowest g) (count g)
+
+-- a market order is active, a limit order is where its price is on the grid
+abbrev pub active : Settings → OrderPrice → Bool
+active g Market = true
+active g (Limit p) = on-grid g p
