@@ -19,7 +19,7 @@ use Rattle.model.specs.Laws.{accounted-for}
 use Rattle.model.proofs.Standing.{Standing, counts, counts-not, standing-wider, left-above, left-append, standing-push}
 use Rattle.model.proofs.Records.{traded-append, withdrawn-append}
 use Rattle.model.proofs.Fills.{filled-of, filled-quantity, meet-limited, meet-whole, left-active-in-rank, fills-standing, fills-left, traded-fills-own, traded-fills-other, withdrawn-fills}
-use Rattle.model.proofs.Sound.{enter-cases, Sound, Keeps, refuse-keeps}
+use Rattle.model.proofs.Sound.{admitted-some, enter-cases, Sound, Keeps, refuse-keeps}
 
 -- an order that is accepted, under the next number
 pub record Accepts (s : State) (q : ℕ) (o : Outcome) : Type 0 where
@@ -132,4 +132,4 @@ module _ (s : State) (h : Sound s) (e : Entry) where
   enter-keeps tape =
       enter-cases s e tape (λ o. Keeps s (entered-under o (e .quantity)) o)
       (λ k. refuse-keeps s h (suc k) (entered-under (refuse (suc k) s) (e .quantity)) (λ n. cond-false (eqb (suc k) 0) (cond (eqb 0 n) (e .quantity) 0) 0 (ne-eqb (suc k) 0 (omega arith))))
-      (λ q. accepts-keeps (accepted s e) (accepted-accepts q))
+      (λ a. accepts-keeps (accepted s e) (accepted-accepts (admitted-some s tape e a)))

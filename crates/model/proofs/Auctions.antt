@@ -15,7 +15,9 @@ use Rattle.model.specs.State.{State}
 use Rattle.model.specs.Auction.{trades-at, idle, struck-records}
 use Rattle.model.specs.Calls.{is-market-order, unpriced, auction}
 use Rattle.model.specs.Run.{step}
-use Rattle.model.specs.Laws.{Lawful, total-quantity, may-trade, Feasible, deals, Optimal, optimal}
+use Rattle.model.specs.Lawful.{Lawful}
+use Rattle.model.specs.Allocations.{total-quantity, may-trade, Feasible, deals, Optimal}
+use Rattle.model.specs.Laws.{optimal}
 use Rattle.model.proofs.GridPrices.{indicative-on-grid}
 use Rattle.model.proofs.Ranking.{Distinct}
 use Rattle.model.proofs.Standing.{standing-alive, standing-distinct}
@@ -82,8 +84,8 @@ module _ (r : Rule) (s : State) (h : Sound s) where
       let found = call-price-found r law g (h .valid) os in
       auction-cases r s tape scratch (λ o. o .refusal ≡ 0 → (p : ℕ) × Optimal r g os o p)
       (λ n z. absurd (omega arith))
-      (λ e _. (g .indicative, unpriced-optimal (subst (Found r g os) e found)))
-      (λ x e _. (x .price, struck-optimal x (subst (Found r g os) e found)))
+      (λ _ e _ _. (g .indicative, unpriced-optimal (subst (Found r g os) e found)))
+      (λ _ x e _ _. (x .price, struck-optimal x (subst (Found r g os) e found)))
 
   -- so is every call of a list
   pub step-optimal : Lawful r → (tape scratch : ℕ) (c : Call) → optimal r s c (step r tape scratch s c)

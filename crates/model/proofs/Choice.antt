@@ -17,7 +17,9 @@ use Rattle.model.specs.Grid.{Settings, on-grid}
 use Rattle.model.specs.Curve.{point, curve, traded, surplus}
 use Rattle.model.specs.Rules.{Rule, nearest, middle, over, most-traded, least-surplus, any, best, nearer, pick, target-among, choose, called}
 use Rattle.model.specs.Auction.{if-trades, call-price}
-use Rattle.model.specs.Laws.{Lawful, Valid, target-in, goes-before}
+use Rattle.model.specs.Lawful.{Lawful}
+use Rattle.model.specs.Making.{Valid}
+use Rattle.model.specs.Allocations.{target-in, goes-before}
 use Rattle.model.proofs.Lists.{has-here, has-there, has-none, has-cases, all-from-has, has-kept, kept-has}
 use Rattle.model.proofs.GridPrices.{curve-has, has-curve, curve-not-empty}
 

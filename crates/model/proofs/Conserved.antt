@@ -13,10 +13,11 @@ use Rattle.model.specs.Orders.{left-in}
 use Rattle.model.specs.State.{State, Outcome}
 use Rattle.model.specs.Entry.{enter}
 use Rattle.model.specs.Run.{step, run, after, records}
-use Rattle.model.specs.Laws.{New, each-call, accounted-for, accounted}
+use Rattle.model.specs.Making.{New}
+use Rattle.model.specs.Laws.{each-call, accounted-for, accounted}
 use Rattle.model.proofs.Standing.{counts, counts-not, left-above}
 use Rattle.model.proofs.Records.{traded-append, withdrawn-append}
-use Rattle.model.proofs.Sound.{enter-cases, Sound, new-sound, Keeps, keeps-sound, begin-random-keeps, close-keeps, withdraw-keeps, auction-keeps}
+use Rattle.model.proofs.Sound.{admitted-some, enter-cases, Sound, new-sound, Keeps, keeps-sound, begin-random-keeps, close-keeps, withdraw-keeps, auction-keeps}
 use Rattle.model.proofs.Accepting.{entered-under, accepted-accepts, enter-keeps}
 
 -- the quantity that a call enters under a number
@@ -44,7 +45,7 @@ module _ (r : Rule) (tape scratch : ℕ) where
   enter-numbers s h e =
       enter-cases s e tape (λ o. o .refusal ≡ 0 → (o .answer ≡ s .last + 1) × (o .state .last ≡ s .last + 1))
       (λ n z. absurd (omega arith))
-      (λ q z. let a = accepted-accepts s h e q in (a .answer, a .last))
+      (λ a z. let k = accepted-accepts s h e (admitted-some s tape e a) in (k .answer, k .last))
 
   -- so a call enters nothing under a number that was given before it, or that is given after it
   entered-new : (s : State) → Sound s → (c : Call) (n : ℕ) → (n ≤ s .last) ⊎ (step r tape scratch s c .state .last < n) → entered-by c (step r tape scratch s c) n ≡ 0

@@ -13,7 +13,7 @@ use Rattle.std.proofs.shelf.Tests.{and-from, and-parts, eq-eqb, eqb-true, le-le
 use Rattle.model.specs.Types.{Order, Point}
 use Rattle.model.specs.Grid.{Settings, within, on-grid, up, count, prices-from, grid}
 use Rattle.model.specs.Curve.{point, curve}
-use Rattle.model.specs.Laws.{Valid}
+use Rattle.model.specs.Making.{Valid}
 use Rattle.model.proofs.Lists.{has-here, has-there, has-none, has-cases, has-map, map-has}
 
 -- a list of prices a tick apart

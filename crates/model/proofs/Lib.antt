@@ -20,4 +20,7 @@ pub mod Trading
 pub mod Auctions
 pub mod Priority
 pub mod Parties
+pub mod Course
+pub mod OnTape
+pub mod Unique
 pub mod Promise

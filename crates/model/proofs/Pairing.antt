@@ -13,7 +13,7 @@ use Rattle.model.specs.Types.{Order, TapeRecord, Trade}
 use Rattle.model.specs.Orders.{with-left, left-in}
 use Rattle.model.specs.Records.{total-traded}
 use Rattle.model.specs.Auction.{Paired, pair-one, pair}
-use Rattle.model.specs.Laws.{total-quantity, deals}
+use Rattle.model.specs.Allocations.{total-quantity, deals}
 use Rattle.model.proofs.Taken.{lefts, taken, taken-none, taken-le}
 use Rattle.model.proofs.Records.{bought, sold, bought-append, sold-append, quantity-append, traded-le-both}
 

@@ -74,8 +74,8 @@ step-apart r tape scratch s h (Withdraw m n) = unless-both Apart _ s (withdrawn 
 step-apart r tape scratch s h BeginRandom = unless-both Apart _ s (begun s) (λ _. tt) (λ _. tt)
 step-apart r tape scratch s h Auction =
     auction-cases r s tape scratch Apart (λ _. tt)
-    (λ _. withdrawals-apart AfterAuction (kept-by is-market-order (s .orders)))
-    (λ x _.
+    (λ _ _ _. withdrawals-apart AfterAuction (kept-by is-market-order (s .orders)))
+    (λ _ x _ _.
     let ts : List TapeRecord = trades-at (s .settings) (x .price) (traded x) (s .orders) in
     all-append Two-parties ts (map (withdrawal AfterAuction) (kept-by (idle ts) (s .orders))) (trades-apart (s .settings) (x .price) (traded x) (s .orders) (standing-distinct 0 (s .last) (s .orders) (h .standing))) (withdrawals-apart AfterAuction (kept-by (idle ts) (s .orders))))
 step-apart r tape scratch s h Close = unless-both Apart _ s (closed s) (λ _. tt) (λ _. withdrawals-apart AtClose (s .orders))

@@ -113,8 +113,8 @@ module _ (r : Rule) (s : State) (h : Sound s) where
   auction-priority tape scratch =
       auction-cases r s tape scratch (λ o. o .refusal ≡ 0 → Priority (s .settings) (s .orders) (o .records))
       (λ n z. absurd (omega arith))
-      (λ _ _ x y hx hy sides ax e l. absurd (omega (arith, traded-withdrawals (y .number) AfterAuction (kept-by is-market-order (s .orders)))))
-      (λ x _ _. struck-priority (s .settings) (x .price) (traded x) (s .orders) (standing-distinct 0 (s .last) (s .orders) (h .standing)) (standing-alive 0 (s .last) (s .orders) (h .standing)))
+      (λ _ _ _ _ x y hx hy sides ax e l. absurd (omega (arith, traded-withdrawals (y .number) AfterAuction (kept-by is-market-order (s .orders)))))
+      (λ _ x _ _ _. struck-priority (s .settings) (x .price) (traded x) (s .orders) (standing-distinct 0 (s .last) (s .orders) (h .standing)) (standing-alive 0 (s .last) (s .orders) (h .standing)))
 
   -- so every call of a list
   pub step-in-rank : (tape scratch : ℕ) (c : Call) → in-rank s c (step r tape scratch s c)

@@ -12,9 +12,10 @@ use Rattle.model.specs.Types.{Order, SettingsOutOfRange, IndicativePrice, Book
 use Rattle.model.specs.Numbers.{max-tick, max-price, max-band, max-number, in-range, no-refusal}
 use Rattle.model.specs.Rules.{Rule}
 use Rattle.model.specs.State.{State, Outcome, ask}
-use Rattle.model.specs.Making.{settings-in-range, indicative-allowed, is-empty}
+use Rattle.model.specs.Making.{settings-in-range, indicative-allowed, is-empty, Sessions-are-made-new}
 use Rattle.model.specs.Run.{step, run, records}
-use Rattle.model.specs.Laws.{Lawful, Rules-are-lawful, Sessions-are-made-new, each-call, optimal, in-rank, while-trading, Two-parties, The-session-keeps-its-laws}
+use Rattle.model.specs.Lawful.{Lawful, Rules-are-lawful}
+use Rattle.model.specs.Laws.{each-call, unchanged, in-course, optimal, in-rank, while-trading, Two-parties, The-session-keeps-its-laws}
 use Rattle.model.proofs.Choice.{nearest-lawful, middle-lawful, most-traded-lawful, least-surplus-lawful}
 use Rattle.model.proofs.Sound.{ask-yes, Sound, new-sound}
 use Rattle.model.proofs.Conserved.{step-sound, run-accounted}
@@ -22,6 +23,8 @@ use Rattle.model.proofs.Trading.{step-uncrossed}
 use Rattle.model.proofs.Auctions.{step-optimal}
 use Rattle.model.proofs.Priority.{step-in-rank}
 use Rattle.model.proofs.Parties.{step-apart}
+use Rattle.model.proofs.Course.{step-unchanged, step-in-course}
+use Rattle.model.proofs.OnTape.{run-on-tape}
 
 module _ (r : Rule) (law : Lawful r) (tape scratch : ℕ) where
   -- what holds of each call of a sound session holds of each call of a list
@@ -46,11 +49,14 @@ pub the-session-keeps-its-laws : The-session-keeps-its-laws
 the-session-keeps-its-laws r law tape scratch s new cs =
     let h = new-sound s new in
     record {
+      refusals = run-each r law tape scratch unchanged (λ t k c. step-unchanged r tape scratch t c) s h cs;
+      course = run-each r law tape scratch in-course (λ t k c. step-in-course r tape scratch t c) s h cs;
       auctions = run-each r law tape scratch (optimal r) (λ t k c. step-optimal r t k law tape scratch c) s h cs;
       priority = run-each r law tape scratch in-rank (λ t k c. step-in-rank r t k tape scratch c) s h cs;
       trading = run-trading r law tape scratch s h (rw (new .phase) tt) cs;
       conserved = run-accounted r tape scratch s new cs;
       parties = run-parties r law tape scratch s h cs;
+      taped = run-on-tape r tape scratch s new cs;
     }
 
 -- what making asks is what a new session has

@@ -10,7 +10,8 @@ use Rattle.std.proofs.shelf.Tests.{eqb-true}
 use Rattle.model.specs.Types.{Order, Reason, TapeRecord, Trade, Withdrawal}
 use Rattle.model.specs.Orders.{left-in, withdrawal}
 use Rattle.model.specs.Records.{total-traded, total-withdrawn}
-use Rattle.model.specs.Laws.{quantity-of, total-quantity, deals, all-at, Two-parties}
+use Rattle.model.specs.Allocations.{quantity-of, total-quantity, deals, all-at}
+use Rattle.model.specs.Laws.{Two-parties}
 
 -- two tapes together
 pub traded-append : (n : ℕ) (xs ys : List TapeRecord) → total-traded n (xs ++ ys) ≡ total-traded n xs + total-traded n ys

@@ -14,7 +14,8 @@ use Rattle.model.specs.Curve.{takes-part, point, traded}
 use Rattle.model.specs.Orders.{left-in}
 use Rattle.model.specs.Records.{total-traded, total-withdrawn}
 use Rattle.model.specs.Auction.{at-price, Paired, pair-one, pair, trades-at}
-use Rattle.model.specs.Laws.{total-quantity, deals, all-at, Two-parties}
+use Rattle.model.specs.Allocations.{total-quantity, deals, all-at}
+use Rattle.model.specs.Laws.{Two-parties}
 use Rattle.model.proofs.Lists.{Pairwise, pairwise-weaker-on}
 use Rattle.model.proofs.Ranking.{Distinct, same-order}
 use Rattle.model.proofs.Taken.{taken, taken-missing, taken-in-order}

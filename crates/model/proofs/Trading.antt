@@ -20,7 +20,8 @@ use Rattle.model.specs.Trading.{limit, Fill, met, active-in-rank, trade-of, af
 use Rattle.model.specs.Entry.{stands-as, settle-remaining, meeting, filled, withdrawn-whole, stood, entered-inactive, entered-active, accepted, enter}
 use Rattle.model.specs.Calls.{withdrawn, withdraw, begun, closed, auction}
 use Rattle.model.specs.Run.{step}
-use Rattle.model.specs.Laws.{Lawful, Uncrossed, while-trading}
+use Rattle.model.specs.Lawful.{Lawful}
+use Rattle.model.specs.Laws.{Uncrossed, while-trading}
 use Rattle.model.proofs.Lists.{has-kept}
 use Rattle.model.proofs.Ranking.{of-side, all-ranked, has-ranked, ranked-wider, same-side-refl}
 use Rattle.model.proofs.Standing.{Standing, standing-alive}
@@ -156,8 +157,8 @@ module _ (s : State) (h : Sound s) (law : while-trading (s .phase) s) where
   auction-uncrossed r lawful tape scratch =
       let found = call-price-found r lawful (s .settings) (h .valid) (s .orders) in
       auction-cases r s tape scratch Uncrossed-after (λ k. law)
-      (λ e. unpriced-uncrossed (s .settings) (s .orders) 0 (s .last) (h .standing) (subst (Found r (s .settings) (s .orders)) e found))
-      (λ x e. let b : Best r (s .settings) (s .orders) x = subst (Found r (s .settings) (s .orders)) e found in
+      (λ _ e _. unpriced-uncrossed (s .settings) (s .orders) 0 (s .last) (h .standing) (subst (Found r (s .settings) (s .orders)) e found))
+      (λ _ x e _. let b : Best r (s .settings) (s .orders) x = subst (Found r (s .settings) (s .orders)) e found in
       struck-uncrossed (s .settings) (s .orders) 0 (s .last) (x .price) (traded x) (h .standing) (sym (ap traded (b .is))) (b .most))
 
   pub step-uncrossed : (r : Rule) → Lawful r → (tape scratch : ℕ) (c : Call) → Uncrossed-after (step r tape scratch s c)

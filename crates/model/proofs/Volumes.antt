@@ -17,7 +17,7 @@ use Rattle.model.specs.Curve.{allows, takes-part, volume, point, traded}
 use Rattle.model.specs.Orders.{find, left-in}
 use Rattle.model.specs.Trading.{limit}
 use Rattle.model.specs.Auction.{at-price}
-use Rattle.model.specs.Laws.{Deal, quantity-of, total-quantity, may-trade, Feasible}
+use Rattle.model.specs.Allocations.{Deal, quantity-of, total-quantity, may-trade, Feasible}
 use Rattle.model.proofs.Lists.{has-here, has-there, has-none, has-cases, all-from-has, has-kept, kept-has, sumBy-mono, sumBy-add, has-le-sumBy, sumBy-kept, sumBy-less}
 use Rattle.model.proofs.Ranking.{Distinct}
 use Rattle.model.proofs.Taken.{lefts, lefts-sumBy, left-in-has}

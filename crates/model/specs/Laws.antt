@@ -1,61 +1,24 @@
 -- The laws that every list of calls keeps, in the market's own words.
-use Prim.Native.Nat.{ℕ, _+_, _%_, _≤_, _<_}
-use mathlib.Core.Bool.{Bool, true, false, cond, not, _&&_, _||_}
-use mathlib.Core.List.{List, [], _∷_}
+use Prim.Native.Nat.{ℕ, _+_, _≤_, _<_, min}
+use mathlib.Core.Bool.{true, false}
+use mathlib.Core.List.{List, [], _∷_, _++_}
+use mathlib.Core.Logic.{_⊎_}
 use mathlib.Core.Path.{_≡_}
-use lib.Dec.{eqb}
-use Rattle.std.specs.declared.option.Option.{Option}
-use Rattle.std.specs.declared.option.Option.the-variants.{None, Some}
+use lib.ListN.{length, drop}
 use Rattle.std.specs.shelf.Lists.{All, Has}
-use Rattle.model.specs.Types.{Side, Buy, Sell, Order, Point, Phase, PreOpening, Random, Called, Trading, Closed, TapeRecord, Trade, Withdrawal, Call, Enter, Withdraw, BeginRandom, Auction, Close}
-use Rattle.model.specs.Numbers.{max-tick, max-price, max-band, max-number, no-refusal}
-use Rattle.model.specs.Grid.{Settings, on-grid, active}
+use Rattle.model.specs.Types.{Buy, Sell, Order, Phase, PreOpening, Random, Called, Trading, Closed, TapeRecord, Trade, Withdrawal, Call, Enter, Withdraw, BeginRandom, Auction, Close}
+use Rattle.model.specs.Numbers.{max-places, no-refusal}
+use Rattle.model.specs.Grid.{Settings, active}
 use Rattle.model.specs.Rank.{before}
-use Rattle.model.specs.Curve.{takes-part, point, curve}
-use Rattle.model.specs.Rules.{Rule, nearest, middle, most-traded, least-surplus, best, nearer, target-among}
-use Rattle.model.specs.Orders.{is-market, find, left-in}
+use Rattle.model.specs.Rules.{Rule}
+use Rattle.model.specs.Orders.{is-market, left-in}
 use Rattle.model.specs.Records.{total-traded, total-withdrawn}
-use Rattle.model.specs.State.{State, Outcome}
+use Rattle.model.specs.State.{State, takes-orders, takes-withdrawals, takes-close, Outcome}
 use Rattle.model.specs.Trading.{limit}
-use Rattle.model.specs.Making.{make-refusal, made}
-use Rattle.model.specs.Run.{run, after, records}
-
--- the two laws of a price rule: no two points go ahead of each other, and a third point is behind the first or ahead of the second
-pub record Lawful (r : Rule) : Type 0 where
-  pub asymmetric : (a b : Point) → r .ahead a b ≡ true → r .ahead b a ≡ false
-  pub transitive : (a b c : Point) → r .ahead a b ≡ true → (r .ahead a c || r .ahead c b) ≡ true
-
--- the rules of the markets are lawful, and so is each layer over a lawful rule
-pub record Rules-are-lawful : Type 0 where
-  pub nearest-is : Lawful nearest
-  pub middle-is : Lawful middle
-  pub most-traded-is : (r : Rule) → Lawful r → Lawful (most-traded r)
-  pub least-surplus-is : (r : Rule) → Lawful r → Lawful (least-surplus r)
-
--- settings within their limits
-pub record Valid (g : Settings) : Type 0 where
-  pub tick-low : 1 ≤ g .tick
-  pub tick-high : g .tick ≤ max-tick
-  pub indicative-low : 1 ≤ g .indicative
-  pub indicative-high : g .indicative ≤ max-price
-  pub on-tick : g .indicative % g .tick ≡ 0
-  pub absolute-low : 1 ≤ g .absolute
-  pub absolute-high : g .absolute ≤ max-band
-  pub static-low : 1 ≤ g .static
-  pub static-high : g .static ≤ max-band
-
--- a session as it is made
-pub record New (s : State) : Type 0 where
-  pub valid : Valid (s .settings)
-  pub phase : s .phase ≡ PreOpening
-  pub reference : s .reference ≡ s .settings .indicative
-  pub unwritten : s .used ≡ 0
-  pub empty : s .orders ≡ []
-  pub last : s .last ≤ max-number
-
--- a session that no question refuses to make is new
-abbrev pub Sessions-are-made-new : Type 0
-Sessions-are-made-new = (g : Settings) (last : ℕ) (os : List Order) (capacity : ℕ) → make-refusal g last os ≡ no-refusal → New (made g last os capacity)
+use Rattle.model.specs.Making.{New}
+use Rattle.model.specs.Run.{run, after, records, tape-after}
+use Rattle.model.specs.Lawful.{Lawful}
+use Rattle.model.specs.Allocations.{Optimal}
 
 -- each call of a list has its outcome, and the session before it, the call and the outcome have L
 abbrev pub each-call : (State → Call → Outcome → Type 0) → State → List Call → List Outcome → Type 0
@@ -72,63 +35,21 @@ of-auction BeginRandom o L = Unit {0}
 of-auction Auction o L = o .refusal ≡ no-refusal → L
 of-auction Close o L = Unit {0}
 
--- a trade that anybody may propose at a price
-pub record Deal : Type 0 where
-  pub buy : ℕ
-  pub sell : ℕ
-  pub quantity : ℕ
+-- a call that is refused answers 0, writes nothing and leaves the session as it was
+abbrev pub unchanged : State → Call → Outcome → Type 0
+unchanged s c o = (o .refusal ≡ no-refusal → ⊥) → (o .answer ≡ 0) × (o .records ≡ []) × (o .state ≡ s)
 
--- what some deals trade of the order n
-abbrev pub quantity-of : ℕ → List Deal → ℕ
-quantity-of n [] = 0
-quantity-of n (d ∷ ds) = cond (eqb (d .buy) n || eqb (d .sell) n) (d .quantity) 0 + quantity-of n ds
+-- the phases that a call which is done may find and leave: trading begins with an auction, and ends with an interruption by an order or with the close
+abbrev pub leads : Call → Phase → Phase → Type 0
+leads (Enter e) from to = (takes-orders from ≡ true) × ((to ≡ from) ⊎ ((from ≡ Trading) × (to ≡ PreOpening)))
+leads (Withdraw m n) from to = (takes-withdrawals from ≡ true) × (to ≡ from)
+leads BeginRandom from to = (from ≡ PreOpening) × (to ≡ Random)
+leads Auction from to = (from ≡ Random) × (to ≡ Trading)
+leads Close from to = (takes-close from ≡ true) × (to ≡ Closed)
 
--- what some deals trade in all
-abbrev pub total-quantity : List Deal → ℕ
-total-quantity [] = 0
-total-quantity (d ∷ ds) = d .quantity + total-quantity ds
-
--- an active order of side s was found that allows p
-abbrev pub may-trade : Settings → Side → ℕ → Option Order → Type 0
-may-trade g s p None = ⊥
-may-trade g s p (Some o) = takes-part g s p o ≡ true
-
--- a feasible allocation at a grid price: deals between active buys and active sells that allow it, no order beyond what is left of it
-pub record Feasible (g : Settings) (os : List Order) (p : ℕ) (ds : List Deal) : Type 0 where
-  pub grid : on-grid g p ≡ true
-  pub parties : All (λ d. may-trade g Buy p (find (d .buy) os) × may-trade g Sell p (find (d .sell) os)) ds
-  pub limited : (n : ℕ) → quantity-of n ds ≤ left-in os n
-
--- the target of a call, from the lowest and the highest best point of its curve
-abbrev pub target-in : Rule → ℕ → List Point → ℕ
-target-in r i ps = target-among r i (best r ps)
-
--- price q goes before price p: its point goes ahead, or neither does and it is nearer the target, or as near and higher
-abbrev pub goes-before : Rule → Settings → List Order → ℕ → ℕ → Bool
-goes-before r g os q p =
-    let x : Point = point g os q in
-    let y : Point = point g os p in
-    r .ahead x y || (not (r .ahead y x) && nearer (target-in r (g .indicative) (curve g os)) x y)
-
--- the trades among some records, as deals
-abbrev pub deals : List TapeRecord → List Deal
-deals [] = []
-deals (Trade b s p q ∷ rs) = record { buy = b; sell = s; quantity = q } ∷ deals rs
-deals (Withdrawal n q r ∷ rs) = deals rs
-
--- every trade is at price p
-abbrev pub all-at : ℕ → List TapeRecord → Type 0
-all-at p [] = Unit {0}
-all-at p (Trade b s x q ∷ rs) = (x ≡ p) × all-at p rs
-all-at p (Withdrawal n q r ∷ rs) = all-at p rs
-
--- an auction answers the pieces of its trades, which are a feasible allocation at one price; none trades more, and where a piece trades no price with one that trades as much goes before
-pub record Optimal (r : Rule) (g : Settings) (os : List Order) (o : Outcome) (p : ℕ) : Type 0 where
-  pub answers : o .answer ≡ total-quantity (deals (o .records))
-  pub one-price : all-at p (o .records)
-  pub feasible : Feasible g os p (deals (o .records))
-  pub most : (q : ℕ) (ds : List Deal) → Feasible g os q ds → total-quantity ds ≤ o .answer
-  pub first : 0 < o .answer → (q : ℕ) (ds : List Deal) → Feasible g os q ds → o .answer ≤ total-quantity ds → goes-before (most-traded r) g os q p ≡ false
+-- the law of the day's course
+abbrev pub in-course : State → Call → Outcome → Type 0
+in-course s c o = o .refusal ≡ no-refusal → leads c (s .phase) (o .state .phase)
 
 -- the law of optimal auctions
 abbrev pub optimal : Rule → State → Call → Outcome → Type 0
@@ -173,14 +94,23 @@ abbrev pub Two-parties : TapeRecord → Type 0
 Two-parties (Trade b s p q) = b ≡ s → ⊥
 Two-parties (Withdrawal n q r) = Unit {0}
 
--- what a list keeps: auctions optimal and in rank, no crossed orders while trading runs, every quantity accounted for, and no order that trades with itself
-pub record Kept (r : Rule) (s : State) (cs : List Call) (os : List Outcome) : Type 0 where
+-- the records of a list stand on the tape from its first place on, within its length and the most places used; the places beyond are as they were
+pub record On-tape (tape : ℕ) (s : State) (os : List Outcome) : Type 0 where
+  pub counted : after s os .used ≡ length (records os)
+  pub room : length (records os) ≤ min tape max-places
+  pub written : (places : List TapeRecord) → length places ≡ tape → tape-after places s os ≡ records os ++ drop (length (records os)) places
+
+-- what a list keeps: refused calls change nothing, phases follow the day's course, auctions are optimal and in rank, no orders cross while trading runs, every quantity is accounted for, no order trades with itself, and the records are on the tape
+pub record Kept (r : Rule) (tape : ℕ) (s : State) (cs : List Call) (os : List Outcome) : Type 0 where
+  pub refusals : each-call unchanged s cs os
+  pub course : each-call in-course s cs os
   pub auctions : each-call (optimal r) s cs os
   pub priority : each-call in-rank s cs os
   pub trading : All (λ o. while-trading (o .state .phase) (o .state)) os
   pub conserved : each-call (accounted (records os) (after s os .orders)) s cs os
   pub parties : All Two-parties (records os)
+  pub taped : On-tape tape s os
 
 -- under a lawful rule, with a tape and a scratch of any length, every list keeps the laws from every new session; a list that is refused runs no call
 abbrev pub The-session-keeps-its-laws : Type 0
-The-session-keeps-its-laws = (r : Rule) → Lawful r → (tape scratch : ℕ) (s : State) → New s → (cs : List Call) → Kept r s cs (run r tape scratch s cs)
+The-session-keeps-its-laws = (r : Rule) → Lawful r → (tape scratch : ℕ) (s : State) → New s → (cs : List Call) → Kept r tape s cs (run r tape scratch s cs)
