@@ -1,7 +1,0 @@
-use mathlib.Core.Path.{refl}
-use Rattle.model.proofs.Promise.{the-session-keeps-its-laws, sessions-are-made-new, rules-are-lawful}
-use Rattle.model.proofs.Unique.{optimum-is-unique}
-use Rattle.model.proofs.laws.laws_hold.Needs as need
-
-pub returns : need.returns
-returns c = record { result = refl; session = the-session-keeps-its-laws; making = sessions-are-made-new; rules = rules-are-lawful; optimum = optimum-is-unique }
