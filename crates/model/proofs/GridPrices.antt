@@ -30,14 +30,14 @@ has-prices t p (suc n) q h =
     (λ k. let r = has-prices t (p + t) n q k in (suc (r .0), omega arith, omega (arith, suc-mul (r .0) t)))
     (has-cases p (prices-from t (p + t) n) q h)
 
--- the least and the greatest price inside the absolute width, on the grid or not
-abbrev least : Settings → ℕ
+-- the least and the greatest price within the absolute band, on the grid or not
+abbrev pub least : Settings → ℕ
 least b = up 100 (b .indicative * (100 - b .absolute)) / 100
 
-abbrev greatest : Settings → ℕ
+abbrev pub greatest : Settings → ℕ
 greatest b = min 99999 ((b .indicative * (100 + b .absolute)) / 100)
 
-within-band : (g : Settings) (q : ℕ) → on-grid g q ≡ true → (q % g .tick ≡ 0) × (least g ≤ q) × (q ≤ greatest g)
+pub within-band : (g : Settings) (q : ℕ) → on-grid g q ≡ true → (q % g .tick ≡ 0) × (least g ≤ q) × (q ≤ greatest g)
 within-band g q h =
     let A : ℕ = g .indicative * (100 - g .absolute) in
     let B : ℕ = g .indicative * (100 + g .absolute) in
@@ -75,21 +75,21 @@ indicative-on-grid g v =
     from-band g c (v .on-tick) (omega arith) (omega (arith, v .indicative-high))
 
 -- the factors of the lowest and the highest price of the grid
-abbrev first-factor : Settings → ℕ
+abbrev pub first-factor : Settings → ℕ
 first-factor b = (least b + (b .tick - 1)) / b .tick
 
-abbrev last-factor : Settings → ℕ
+abbrev pub last-factor : Settings → ℕ
 last-factor b = greatest b / b .tick
 
 -- the factor of a price on the grid
-grid-factor : (g : Settings) → Valid g → (q : ℕ) → on-grid g q ≡ true → (k : ℕ) × (q ≡ k * g .tick) × (first-factor g ≤ k) × (k ≤ last-factor g)
+pub grid-factor : (g : Settings) → Valid g → (q : ℕ) → on-grid g q ≡ true → (k : ℕ) × (q ≡ k * g .tick) × (first-factor g ≤ k) × (k ≤ last-factor g)
 grid-factor g v q h =
     let t : ℕ = g .tick in
     let r = within-band g q h in
     let e : q ≡ q / t * t = omega (arith, div-add-mod' q t) in
     (q / t, e, up-le t (least g) (q / t) (v .tick-low) .0 (subst (λ x. least g ≤ x) e (r .1)), le-down t (greatest g) (q / t) (v .tick-low) .0 (subst (λ x. x ≤ greatest g) e (r .2)))
 
-factor-grid : (g : Settings) → Valid g → (k : ℕ) → first-factor g ≤ k → k ≤ last-factor g → on-grid g (k * g .tick) ≡ true
+pub factor-grid : (g : Settings) → Valid g → (k : ℕ) → first-factor g ≤ k → k ≤ last-factor g → on-grid g (k * g .tick) ≡ true
 factor-grid g v k l h = from-band g (k * g .tick) (mul-mod-left k (g .tick)) (up-le (g .tick) (least g) k (v .tick-low) .1 l) (le-down (g .tick) (greatest g) k (v .tick-low) .1 h)
 
 count-factors : (g : Settings) → Valid g → (d : ℕ) → last-factor g ≡ first-factor g + d → count g ≡ d + 1
@@ -99,7 +99,7 @@ count-factors g v d e =
     let s : last-factor g * t - first-factor g * t ≡ d * t = omega arith in
     ap (λ x. x / t + 1) s ∙ ap (λ x. x + 1) (mul-div-cancel d (v .tick-low))
 
-factors-ordered : (g : Settings) → Valid g → (d : ℕ) × (last-factor g ≡ first-factor g + d)
+pub factors-ordered : (g : Settings) → Valid g → (d : ℕ) × (last-factor g ≡ first-factor g + d)
 factors-ordered g v = let r = grid-factor g v (g .indicative) (indicative-on-grid g v) in (last-factor g - first-factor g, omega (arith, r .2, r .3))
 
 -- a price is in the grid exactly when it is on it

@@ -1,5 +1,6 @@
 pub mod Lists
 pub mod GridPrices
+pub mod GridEnds
 pub mod Ranking
 pub mod Standing
 pub mod Taken

@@ -1,7 +1,8 @@
 -- The prices at which a security may trade today.
-use Prim.Native.Nat.{ℕ, zero, suc, _+_, _-_, _*_, _/_, _%_, min}
+use Prim.Native.Nat.{ℕ, zero, suc, _+_, _-_, _*_, _/_, _%_, _≤_, min}
 use mathlib.Core.Bool.{Bool, true, _&&_}
 use mathlib.Core.List.{List, [], _∷_}
+use mathlib.Core.Path.{_≡_}
 use lib.Dec.{leb, eqb}
 use Rattle.model.specs.Types.{OrderPrice, Market, Limit}
 use Rattle.model.specs.Numbers.{max-price}
@@ -36,6 +37,16 @@ highest g = down (g .tick) (min max-price ((g .indicative * (100 + g .absolute))
 -- the lowest price of the grid
 abbrev pub lowest : Settings → ℕ
 lowest g = up (g .tick) (up 100 (g .indicative * (100 - g .absolute)) / 100)
+
+-- p is the least price on the grid
+pub record Is-lowest (g : Settings) (p : ℕ) : Type 0 where
+  pub on : on-grid g p ≡ true
+  pub least : (q : ℕ) → on-grid g q ≡ true → p ≤ q
+
+-- p is the greatest price on the grid
+pub record Is-highest (g : Settings) (p : ℕ) : Type 0 where
+  pub on : on-grid g p ≡ true
+  pub greatest : (q : ℕ) → on-grid g q ≡ true → q ≤ p
 
 -- how many prices the grid has
 abbrev pub count : Settings → ℕ

@@ -32,6 +32,10 @@ max-number = 999999999
 abbrev pub max-places : ℕ
 max-places = 65536
 
+-- the most prices that a grid can have
+abbrev pub max-count : ℕ
+max-count = 99497
+
 -- n is from low to high
 abbrev pub in-range : ℕ → ℕ → ℕ → Bool
 in-range low high n = leb low n && leb n high
