@@ -11,7 +11,7 @@ use Rattle.std.specs.shelf.Lists.{Has}
 use Rattle.std.proofs.shelf.Bits.{le-div}
 use Rattle.std.proofs.shelf.Tests.{and-from, and-parts, eq-eqb, eqb-true, le-leb, leb-true}
 use Rattle.model.specs.Types.{Order, Point}
-use Rattle.model.specs.Grid.{Settings, within, on-grid, up, count, prices-from, grid}
+use Rattle.model.specs.Grid.{Settings, within, on-grid, divided-up, count, prices-from, grid}
 use Rattle.model.specs.Curve.{point, curve}
 use Rattle.model.specs.Making.{Valid}
 use Rattle.model.proofs.Lists.{has-here, has-there, has-none, has-cases, has-map, map-has}
@@ -32,7 +32,7 @@ has-prices t p (suc n) q h =
 
 -- the least and the greatest price within the absolute band, on the grid or not
 abbrev pub least : Settings → ℕ
-least b = up 100 (b .indicative * (100 - b .absolute)) / 100
+least b = divided-up 100 (b .indicative * (100 - b .absolute))
 
 abbrev pub greatest : Settings → ℕ
 greatest b = min 99999 ((b .indicative * (100 + b .absolute)) / 100)

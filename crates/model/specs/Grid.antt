@@ -26,9 +26,13 @@ on-grid g p = eqb (p % g .tick) 0 && (leb p max-price && within (g .absolute) (g
 abbrev pub down : ℕ → ℕ → ℕ
 down t p = (p / t) * t
 
+-- x divided by d, the fraction rounded up
+abbrev pub divided-up : ℕ → ℕ → ℕ
+divided-up d x = (x + (d - 1)) / d
+
 -- p taken up to a multiple of t
 abbrev pub up : ℕ → ℕ → ℕ
-up t p = ((p + (t - 1)) / t) * t
+up t p = divided-up t p * t
 
 -- the highest price of the grid
 abbrev pub highest : Settings → ℕ
@@ -36,7 +40,7 @@ highest g = down (g .tick) (min max-price ((g .indicative * (100 + g .absolute))
 
 -- the lowest price of the grid
 abbrev pub lowest : Settings → ℕ
-lowest g = up (g .tick) (up 100 (g .indicative * (100 - g .absolute)) / 100)
+lowest g = up (g .tick) (divided-up 100 (g .indicative * (100 - g .absolute)))
 
 -- p is the least price on the grid
 pub record Is-lowest (g : Settings) (p : ℕ) : Type 0 where

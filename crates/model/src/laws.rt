@@ -25,5 +25,4 @@ fn cite_theorems()
     ensures making { λ _. ⌜ Sessions-are-made-new ⌝ }
     ensures rules { λ _. ⌜ Rules-are-lawful ⌝ }
     ensures optimum { λ _. ⌜ Optimum-is-unique ⌝ }
-{
-}
+{}
