@@ -4,6 +4,7 @@ mod laws;
 mod orders;
 mod outcomes;
 mod points;
+mod sides;
 mod types;
 
 pub use laws::laws_hold;

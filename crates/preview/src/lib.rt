@@ -1,0 +1,7 @@
+// The curve and the opening price of a slice of orders, with no book behind it.
+mod curve;
+mod faults;
+mod volumes;
+
+pub use curve::write_curve;
+pub use faults::Fault;
