@@ -10,13 +10,13 @@ use Rattle.std.proofs.shelf.Tests.{cases-eq, cond-both, cond-false, cond-true, 
 use Rattle.model.specs.Types.{Condition, Plain, FillOrKill, ImmediateOrCancel, Entry, Order, Phase, Trading, ConditionUnmet, TapeRecord}
 use Rattle.model.specs.Grid.{within, active}
 use Rattle.model.specs.Rank.{opposite}
-use Rattle.model.specs.Orders.{left-in}
+use Rattle.model.specs.Orders.{Standing, left-in}
 use Rattle.model.specs.Records.{total-traded}
 use Rattle.model.specs.State.{State, is-trading, Outcome, refuse}
 use Rattle.model.specs.Trading.{Met, active-in-rank, trade-of, after-fills, Disposition, disposition, Disposition.stands, Disposition.goes}
 use Rattle.model.specs.Entry.{stands-as, gone, numbered, settle-remaining, phase-after, meeting, filled, withdrawn-whole, stood, entered-inactive, entered-active, accepted, enter}
 use Rattle.model.specs.Laws.{accounted-for}
-use Rattle.model.proofs.Standing.{Standing, counts, counts-not, standing-wider, left-above, left-append, standing-push}
+use Rattle.model.proofs.Standing.{counts, counts-not, standing-wider, left-above, left-append, standing-push}
 use Rattle.model.proofs.Records.{traded-append, withdrawn-append}
 use Rattle.model.proofs.Fills.{filled-of, filled-quantity, meet-limited, meet-whole, left-active-in-rank, fills-standing, fills-left, traded-fills-own, traded-fills-other, withdrawn-fills}
 use Rattle.model.proofs.Sound.{admitted-some, enter-cases, Sound, Keeps, refuse-keeps}

@@ -13,13 +13,13 @@ use Rattle.model.specs.Types.{Side, Buy, Sell, OrderPrice, Market, Limit, Orde
 use Rattle.model.specs.Grid.{Settings, up, active}
 use Rattle.model.specs.Rank.{opposite, same-side}
 use Rattle.model.specs.Curve.{allows}
-use Rattle.model.specs.Orders.{is-market, lower, left-in}
+use Rattle.model.specs.Orders.{Standing, is-market, lower, left-in}
 use Rattle.model.specs.Records.{total-traded, total-withdrawn}
 use Rattle.model.specs.Trading.{limit, Fill, Met, met, add-fill, meet, active-in-rank, trade-of, after-fills}
 use Rattle.model.specs.Laws.{Two-parties}
 use Rattle.model.proofs.Lists.{Pairwise, all-from-has}
 use Rattle.model.proofs.Ranking.{Wider}
-use Rattle.model.proofs.Standing.{Standing, counts, lower-left, lower-standing, left-kept-both}
+use Rattle.model.proofs.Standing.{counts, lower-left, lower-standing, left-kept-both}
 use Rattle.model.proofs.Taken.{left-in-ranked}
 
 -- what some fills take of a standing order, and of the order that is entered

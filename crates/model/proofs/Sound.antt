@@ -15,14 +15,14 @@ use Rattle.model.specs.Numbers.{max-member, max-quantity, max-number, in-range
 use Rattle.model.specs.Grid.{count}
 use Rattle.model.specs.Curve.{traded}
 use Rattle.model.specs.Rules.{Rule}
-use Rattle.model.specs.Orders.{find, lower, left-of, left-in, withdrawal}
+use Rattle.model.specs.Orders.{Standing, find, lower, left-of, left-in, withdrawal}
 use Rattle.model.specs.State.{State, takes-orders, is-random, is-trading, Outcome, refuse, advance, done, ask, unless, fits}
 use Rattle.model.specs.Entry.{accepted, price-allowed, unconditional, enter}
 use Rattle.model.specs.Auction.{call-price, trades-at}
 use Rattle.model.specs.Calls.{withdrawn, withdraw, begun, begin-random, closed, close, is-market-order, unpriced, priced, call-result, call-refusal, struck, strike, auction-after, auction}
 use Rattle.model.specs.Making.{Valid, New}
 use Rattle.model.specs.Laws.{accounted-for}
-use Rattle.model.proofs.Standing.{Standing, lower-left, lower-standing, kept-standing, left-kept-both, find-left}
+use Rattle.model.proofs.Standing.{lower-left, lower-standing, kept-standing, left-kept-both, find-left}
 use Rattle.model.proofs.Records.{traded-withdrawals, withdrawn-withdrawals}
 use Rattle.model.proofs.Struck.{struck-standing, auction-left}
 

@@ -1,4 +1,4 @@
--- A list of standing orders: numbers ascend within bounds, a piece is left of each, and what each operation keeps.
+-- What each operation keeps of a list of standing orders.
 use Prim.Native.Nat.{ℕ, _+_, _-_, _≤_, _<_}
 use mathlib.Core.Bool.{Bool, true, false, cond, not}
 use mathlib.Core.List.{List, [], _∷_, _++_, map}
@@ -9,13 +9,8 @@ use Rattle.std.specs.shelf.Lists.{All, kept-by}
 use Rattle.std.proofs.shelf.Elements.{all-weaker}
 use Rattle.std.proofs.shelf.Tests.{cond-both, cond-false, cond-true, eq-eqb, eqb-false, eqb-true, leb-false, leb-true, ne-eqb}
 use Rattle.model.specs.Types.{Order}
-use Rattle.model.specs.Orders.{find, lower, left-of, left-in}
+use Rattle.model.specs.Orders.{Standing, find, lower, left-of, left-in}
 use Rattle.model.proofs.Ranking.{Distinct}
-
--- numbers ascend strictly from above lo up to hi, and at least a piece is left of each order
-abbrev pub Standing : ℕ → List Order → ℕ → Type 0
-Standing lo [] hi = lo ≤ hi
-Standing lo (o ∷ os) hi = (lo < o .number) × (1 ≤ o .left) × Standing (o .number) os hi
 
 -- a quantity counts under its own number, and under no other
 pub counts : (a n q : ℕ) → a ≡ n → cond (eqb a n) q 0 ≡ q

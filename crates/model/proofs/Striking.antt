@@ -12,14 +12,14 @@ use Rattle.model.specs.Types.{Side, Buy, Sell, OrderPrice, Market, Limit, Orde
 use Rattle.model.specs.Grid.{Settings, active}
 use Rattle.model.specs.Rank.{opposite}
 use Rattle.model.specs.Curve.{allows, takes-part, volume, point, traded}
-use Rattle.model.specs.Orders.{is-market}
+use Rattle.model.specs.Orders.{Standing, is-market}
 use Rattle.model.specs.Records.{total-traded}
 use Rattle.model.specs.Trading.{limit}
 use Rattle.model.specs.Auction.{at-price, trades-at, apply-trades, idle, settled, struck-orders}
 use Rattle.model.specs.Laws.{Uncrossed}
 use Rattle.model.proofs.Lists.{all-from-has, kept-has}
 use Rattle.model.proofs.Ranking.{Wider, ranked-wider, same-side-refl}
-use Rattle.model.proofs.Standing.{Standing, standing-alive}
+use Rattle.model.proofs.Standing.{standing-alive}
 use Rattle.model.proofs.Taken.{lefts, taken, taken-short}
 use Rattle.model.proofs.Records.{bought-le-traded, sold-le-traded}
 use Rattle.model.proofs.Pairing.{Pairs, pair-pairs}

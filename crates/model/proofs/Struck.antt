@@ -10,11 +10,11 @@ use Rattle.std.specs.shelf.Lists.{All, kept-by}
 use Rattle.std.proofs.shelf.Tests.{and-parts, cases-eq, cond-both, eq-eqb, eqb-true, false≢true, leb-true, or-left, or-right}
 use Rattle.model.specs.Types.{Buy, Sell, OrderPrice, Order, AfterAuction, TapeRecord, Trade, Withdrawal}
 use Rattle.model.specs.Grid.{Settings}
-use Rattle.model.specs.Orders.{with-left, is-market, lower, left-in, withdrawal}
+use Rattle.model.specs.Orders.{Standing, with-left, is-market, lower, left-in, withdrawal}
 use Rattle.model.specs.Records.{total-traded, total-withdrawn}
 use Rattle.model.specs.Auction.{trades-at, apply-trades, idle, settled, struck-orders, struck-records}
 use Rattle.model.specs.Laws.{accounted-for, Two-parties}
-use Rattle.model.proofs.Standing.{Standing, counts, counts-not, lower-left, lower-standing, kept-standing, left-kept-both, Same-order, map-standing, left-map, standing-alive, standing-distinct}
+use Rattle.model.proofs.Standing.{counts, counts-not, lower-left, lower-standing, kept-standing, left-kept-both, Same-order, map-standing, left-map, standing-alive, standing-distinct}
 use Rattle.model.proofs.Records.{traded-append, withdrawn-append, traded-withdrawals, withdrawn-withdrawals, trade-of-two}
 use Rattle.model.proofs.AtPrice.{Party}
 use Rattle.model.proofs.Trades.{trades-limited, trades-parties, between-withdrawn, trades-apart}

@@ -14,7 +14,7 @@ use Rattle.model.specs.Grid.{Settings, within, active}
 use Rattle.model.specs.Rank.{opposite}
 use Rattle.model.specs.Curve.{allows, traded}
 use Rattle.model.specs.Rules.{Rule}
-use Rattle.model.specs.Orders.{is-market, find, left-of}
+use Rattle.model.specs.Orders.{Standing, is-market, find, left-of}
 use Rattle.model.specs.State.{State, is-trading, done}
 use Rattle.model.specs.Trading.{limit, Fill, met, active-in-rank, trade-of, after-fills, last-price, Disposition, disposition, Disposition.stands, Disposition.goes}
 use Rattle.model.specs.Entry.{stands-as, settle-remaining, meeting, filled, withdrawn-whole, stood, entered-inactive, entered-active, accepted, enter}
@@ -24,7 +24,7 @@ use Rattle.model.specs.Lawful.{Lawful}
 use Rattle.model.specs.Laws.{Uncrossed, while-trading}
 use Rattle.model.proofs.Lists.{has-kept}
 use Rattle.model.proofs.Ranking.{of-side, all-ranked, has-ranked, ranked-wider, same-side-refl}
-use Rattle.model.proofs.Standing.{Standing, standing-alive}
+use Rattle.model.proofs.Standing.{standing-alive}
 use Rattle.model.proofs.Choice.{Best, Found, call-price-found}
 use Rattle.model.proofs.Fills.{filled-of, fills-standing, Done, meet-done}
 use Rattle.model.proofs.Sound.{unless-both, enter-cases, auction-cases, Sound}
