@@ -47,11 +47,11 @@ pub least-surplus-lawful : (r : Rule) → Lawful r → Lawful (least-surplus r)
 least-surplus-lawful r law = over-lawful (λ a b. ltb (surplus a) (surplus b)) (λ a b h. grind (arith, tells)) (λ a b c h. grind (arith, tells)) r law
 
 -- a test that no element passes
-any-false : {X : Type 0} (p : X → Bool) (xs : List X) → any p xs ≡ false → All (λ x. p x ≡ false) xs
+pub any-false : {X : Type 0} (p : X → Bool) (xs : List X) → any p xs ≡ false → All (λ x. p x ≡ false) xs
 any-false p [] h = tt
 any-false p (x ∷ xs) h = let r = or-parts (p x) (any p xs) h in (r .0, any-false p xs (r .1))
 
-false-any : {X : Type 0} (p : X → Bool) (xs : List X) → All (λ x. p x ≡ false) xs → any p xs ≡ false
+pub false-any : {X : Type 0} (p : X → Bool) (xs : List X) → All (λ x. p x ≡ false) xs → any p xs ≡ false
 false-any p [] h = refl
 false-any p (x ∷ xs) h = or-from (p x) (any p xs) (h .0) (false-any p xs (h .1))
 
@@ -60,18 +60,18 @@ abbrev pub Unbeaten : Rule → List Point → Point → Type 0
 Unbeaten r ps x = All (λ y. r .ahead y x ≡ false) ps
 
 -- the best points are the members that no point goes ahead of
-best-has : (r : Rule) (ps : List Point) (x : Point) → Has (best r ps) x → Has ps x × Unbeaten r ps x
+pub best-has : (r : Rule) (ps : List Point) (x : Point) → Has (best r ps) x → Has ps x × Unbeaten r ps x
 best-has r ps x h = let k = kept-has (λ p. not (any (λ q. r .ahead q p) ps)) ps x h in (k .0, any-false (λ q. r .ahead q x) ps (not-true (any (λ q. r .ahead q x) ps) (k .1)))
 
-has-best : (r : Rule) (ps : List Point) (x : Point) → Has ps x → Unbeaten r ps x → Has (best r ps) x
+pub has-best : (r : Rule) (ps : List Point) (x : Point) → Has ps x → Unbeaten r ps x → Has (best r ps) x
 has-best r ps x h u = has-kept (λ p. not (any (λ q. r .ahead q p) ps)) ps x h (not-from-false (any (λ q. r .ahead q x) ps) (false-any (λ q. r .ahead q x) ps u))
 
 -- a point that an unbeaten point does not go ahead of is unbeaten
-unbeaten-tie : (r : Rule) → Lawful r → (ps : List Point) (x y : Point) → Unbeaten r ps x → r .ahead x y ≡ false → Unbeaten r ps y
+pub unbeaten-tie : (r : Rule) → Lawful r → (ps : List Point) (x y : Point) → Unbeaten r ps x → r .ahead x y ≡ false → Unbeaten r ps y
 unbeaten-tie r law ps x y u n = all-weaker (λ z. r .ahead z x ≡ false) (λ z. r .ahead z y ≡ false) (λ z e. grind (arith, law .transitive z y x)) ps u
 
 -- some member of a list that is not empty is unbeaten
-unbeaten-exists : (r : Rule) → Lawful r → (p : Point) (ps : List Point) → (x : Point) × Has (p ∷ ps) x × Unbeaten r (p ∷ ps) x
+pub unbeaten-exists : (r : Rule) → Lawful r → (p : Point) (ps : List Point) → (x : Point) × Has (p ∷ ps) x × Unbeaten r (p ∷ ps) x
 unbeaten-exists r law p [] = (p, has-here p [], (grind (arith, law .asymmetric p p), tt))
 unbeaten-exists r law p (q ∷ qs) =
     let w = unbeaten-exists r law q qs in
@@ -118,7 +118,7 @@ chosen-top r i (p ∷ qs) x h =
     let e : pick target p qs ≡ x = cc in
     subst (λ w. Has (p ∷ qs) w × All (λ y. nearer target y w ≡ false) (p ∷ qs)) e (pick-has target p qs, pick-nearest target p qs)
 
-called-chosen : (r : Rule) → Lawful r → (i : ℕ) (ps : List Point) (x : Point) → called r i ps ≡ Some x → Chosen r i ps x
+pub called-chosen : (r : Rule) → Lawful r → (i : ℕ) (ps : List Point) (x : Point) → called r i ps ≡ Some x → Chosen r i ps x
 called-chosen r law i ps x h =
     let t = chosen-top r i (best r ps) x h in
     let b = best-has r ps x (t .0) in
@@ -141,7 +141,7 @@ called-some : (r : Rule) → Lawful r → (i : ℕ) (p : Point) (ps : List Point
 called-some r law i p ps = let w = unbeaten-exists r law p ps in choose-some r i (best r (p ∷ ps)) (w .0) (has-best r (p ∷ ps) (w .0) (w .1) (w .2))
 
 -- where no point is called there is none
-called-none : (r : Rule) → Lawful r → (i : ℕ) (ps : List Point) → called r i ps ≡ None → ps ≡ []
+pub called-none : (r : Rule) → Lawful r → (i : ℕ) (ps : List Point) → called r i ps ≡ None → ps ≡ []
 called-none r law i [] h = refl
 called-none r law i (p ∷ ps) h = let w = called-some r law i p ps in let e = w .1 in absurd (let z : _≡_ {A = ℕ} 0 1 = cc in omega arith)
 

@@ -1,0 +1,4 @@
+mod Best
+mod Ends
+mod Level
+mod Called
