@@ -16,7 +16,7 @@ use Rattle.model.specs.Auction.{trades-at, idle, struck-records}
 use Rattle.model.specs.Calls.{is-market-order, unpriced, auction}
 use Rattle.model.specs.Run.{step}
 use Rattle.model.specs.Lawful.{Lawful}
-use Rattle.model.specs.Allocations.{total-quantity, may-trade, Feasible, deals, Optimal}
+use Rattle.model.specs.Allocations.{total-quantity, may-trade, Feasible, deals, Optimal, At-most, First-price, Found}
 use Rattle.model.specs.Laws.{optimal}
 use Rattle.model.proofs.GridPrices.{indicative-on-grid}
 use Rattle.model.proofs.Ranking.{Distinct}
@@ -26,7 +26,7 @@ use Rattle.model.proofs.Pairing.{Alive}
 use Rattle.model.proofs.AtPrice.{Party}
 use Rattle.model.proofs.Trades.{trades-limited, trades-total, trades-parties, between-at, between-deals}
 use Rattle.model.proofs.Volumes.{party-may-trade, feasible-traded}
-use Rattle.model.proofs.Choice.{Most, Best, Found, call-price-found}
+use Rattle.model.proofs.Choice.{call-price-found}
 use Rattle.model.proofs.Sound.{struck-at, auction-cases, Sound}
 
 -- the trades at a price of the grid are a feasible allocation
@@ -53,7 +53,7 @@ module _ (r : Rule) (s : State) (h : Sound s) where
   alive = standing-alive 0 (s .last) os (h .standing)
 
   -- where no grid price trades a piece, no feasible allocation does
-  unpriced-optimal : Most g os 0 → Optimal r g os (unpriced s) (g .indicative)
+  unpriced-optimal : At-most g os 0 → Optimal r g os (unpriced s) (g .indicative)
   unpriced-optimal most =
       let none : deals (map (withdrawal AfterAuction) (kept-by is-market-order os)) ≡ [] = deals-withdrawn [] AfterAuction (kept-by is-market-order os) in
       record {
@@ -65,7 +65,7 @@ module _ (r : Rule) (s : State) (h : Sound s) where
       }
 
   -- the trades at the price that is called are the most, and the price is the first
-  struck-optimal : (x : Point) → Best r g os x → Optimal r g os (struck-at s x) (x .price)
+  struck-optimal : (x : Point) → First-price r g os x → Optimal r g os (struck-at s x) (x .price)
   struck-optimal x b =
       let p : ℕ = x .price in
       let v : ℕ = traded x in

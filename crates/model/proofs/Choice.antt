@@ -19,7 +19,7 @@ use Rattle.model.specs.Rules.{Rule, nearest, middle, over, most-traded, least-
 use Rattle.model.specs.Auction.{if-trades, call-price}
 use Rattle.model.specs.Lawful.{Lawful}
 use Rattle.model.specs.Making.{Valid}
-use Rattle.model.specs.Allocations.{target-in, goes-before}
+use Rattle.model.specs.Allocations.{target-in, goes-before, At-most, First-price, Found}
 use Rattle.model.proofs.Lists.{has-here, has-there, has-none, has-cases, all-from-has, has-kept, kept-has}
 use Rattle.model.proofs.GridPrices.{curve-has, has-curve, curve-not-empty}
 
@@ -145,23 +145,8 @@ pub called-none : (r : Rule) → Lawful r → (i : ℕ) (ps : List Point) → ca
 called-none r law i [] h = refl
 called-none r law i (p ∷ ps) h = let w = called-some r law i p ps in let e = w .1 in absurd (let z : _≡_ {A = ℕ} 0 1 = cc in omega arith)
 
--- no grid price trades more than v
-abbrev pub Most : Settings → List Order → ℕ → Type 0
-Most g os v = (q : ℕ) → on-grid g q ≡ true → traded (point g os q) ≤ v
-
--- x is the point of a grid price, no grid price trades more, and none goes before it
-pub record Best (r : Rule) (g : Settings) (os : List Order) (x : Point) : Type 0 where
-  pub on : on-grid g (x .price) ≡ true
-  pub is : point g os (x .price) ≡ x
-  pub most : Most g os (traded x)
-  pub first : (q : ℕ) → on-grid g q ≡ true → goes-before (most-traded r) g os q (x .price) ≡ false
-
-abbrev pub Found : Rule → Settings → List Order → Option Point → Type 0
-Found r g os None = Most g os 0
-Found r g os (Some x) = Best r g os x
-
 module _ (r : Rule) (law : Lawful r) (g : Settings) (valid : Valid g) (os : List Order) where
-  called-best : (x : Point) → called (most-traded r) (g .indicative) (curve g os) ≡ Some x → Best r g os x
+  called-best : (x : Point) → called (most-traded r) (g .indicative) (curve g os) ≡ Some x → First-price r g os x
   called-best x e =
       let R : Rule = most-traded r in
       let a : ℕ = target-in R (g .indicative) (curve g os) in

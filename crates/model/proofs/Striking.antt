@@ -17,6 +17,7 @@ use Rattle.model.specs.Records.{total-traded}
 use Rattle.model.specs.Trading.{limit}
 use Rattle.model.specs.Auction.{at-price, trades-at, apply-trades, idle, settled, struck-orders}
 use Rattle.model.specs.Laws.{Uncrossed}
+use Rattle.model.specs.Allocations.{At-most}
 use Rattle.model.proofs.Lists.{all-from-has, kept-has}
 use Rattle.model.proofs.Ranking.{Wider, ranked-wider, same-side-refl}
 use Rattle.model.proofs.Standing.{standing-alive}
@@ -25,7 +26,6 @@ use Rattle.model.proofs.Records.{bought-le-traded, sold-le-traded}
 use Rattle.model.proofs.Pairing.{Pairs, pair-pairs}
 use Rattle.model.proofs.AtPrice.{lefts-at-price, has-at-price, all-at-price}
 use Rattle.model.proofs.Volumes.{between, allows-buy, allows-sell, lefts-allowed, volume-greater, volume-some}
-use Rattle.model.proofs.Choice.{Most}
 use Rattle.model.proofs.Struck.{trades-standing}
 use Rattle.model.proofs.Uncrossing.{Left, trades-leave}
 
@@ -110,7 +110,7 @@ module _ (g : Settings) (os : List Order) (lo hi p v : ℕ) (st : Standing lo os
   both-more Sell q l r = omega arith
 
   -- of a side that is traded whole at p no order rests that allows the limit of one that rests on the other side
-  not-crossed : (s : Side) → v ≡ volume g s p os → Most g os v → (x y : Order) → Resting s x → Resting (opposite s) y → (X Y : OrderPrice) → x .price ≡ X → y .price ≡ Y
+  not-crossed : (s : Side) → v ≡ volume g s p os → At-most g os v → (x y : Order) → Resting s x → Resting (opposite s) y → (X Y : OrderPrice) → x .price ≡ X → y .price ≡ Y
       → active g (settled-price p X) ≡ true → active g (settled-price p Y) ≡ true → allows s (settled-price p X) (limit (settled-price p Y)) ≡ true → ⊥
   not-crossed s full most x y rx ry Market Y ex ey ax ay cross = omega (arith, resting-more s x p rx (rw ex) (rw ex) (rw ex))
   not-crossed s full most x y rx ry (Limit a) Market ex ey ax ay cross = omega (arith, resting-more s x p rx (rw ex ax) (rw ex cross) (rw ex cross))
@@ -128,7 +128,7 @@ module _ (g : Settings) (os : List Order) (lo hi p v : ℕ) (st : Standing lo os
   lesser = elim (cases-lt (volume g Buy p os) (volume g Sell p os)) [ inl l ↦ inl (omega arith) | inr l ↦ inr (omega arith) ]
 
   -- a strike at p, where no grid price trades more, leaves orders that do not cross
-  pub struck-uncrossed : Most g os v → Uncrossed g (struck-orders p ts os)
+  pub struck-uncrossed : At-most g os v → Uncrossed g (struck-orders p ts os)
   struck-uncrossed most = record {
     no-market = all-weaker (Unfilled p ts os) (λ o. is-market (o .price) ≡ false) (λ y k. rw (k .price) (settled-limit p (k .was .price))) (struck-orders p ts os) left;
     apart = λ x y mx my sx sy ax ay.
@@ -152,7 +152,7 @@ module _ (g : Settings) (os : List Order) (lo hi p v : ℕ) (st : Standing lo os
       go x y rx ry ax ay (inr full) (inr l) = absurd (not-crossed Sell full most y x ry rx (y .price) (x .price) refl refl ay ax (allows-sell (settled-price p (y .price)) (after x) l))
 
 -- where no grid price trades a piece, the limit orders do not cross
-pub unpriced-uncrossed : (g : Settings) (os : List Order) (lo hi : ℕ) → Standing lo os hi → Most g os 0 → Uncrossed g (kept-by (λ o. not (is-market (o .price))) os)
+pub unpriced-uncrossed : (g : Settings) (os : List Order) (lo hi : ℕ) → Standing lo os hi → At-most g os 0 → Uncrossed g (kept-by (λ o. not (is-market (o .price))) os)
 unpriced-uncrossed g os lo hi st most = record {
   no-market = all-from-has (λ o. is-market (o .price) ≡ false) (kept-by lim os) (λ x m. limits x m);
   apart = λ x y mx my sx sy ax ay. go x y (kept-has lim os x mx .0) (kept-has lim os y my .0) sx sy (x .price) (y .price) refl refl ax ay (limits x mx) (limits y my) (cases-lt (limit (x .price)) (limit (y .price)));

@@ -22,10 +22,11 @@ use Rattle.model.specs.Calls.{withdrawn, withdraw, begun, closed, auction}
 use Rattle.model.specs.Run.{step}
 use Rattle.model.specs.Lawful.{Lawful}
 use Rattle.model.specs.Laws.{Uncrossed, while-trading}
+use Rattle.model.specs.Allocations.{First-price, Found}
 use Rattle.model.proofs.Lists.{has-kept}
 use Rattle.model.proofs.Ranking.{of-side, all-ranked, has-ranked, ranked-wider, same-side-refl}
 use Rattle.model.proofs.Standing.{standing-alive}
-use Rattle.model.proofs.Choice.{Best, Found, call-price-found}
+use Rattle.model.proofs.Choice.{call-price-found}
 use Rattle.model.proofs.Fills.{filled-of, fills-standing, Done, meet-done}
 use Rattle.model.proofs.Sound.{unless-both, enter-cases, auction-cases, Sound}
 use Rattle.model.proofs.Uncrossing.{Left, fills-leave, uncrossed-left, uncrossed-lower, Uncrossed-after, Short-of, uncrossed-push, not-trading, phase-of-trading, uncrossed-in-trading, trading-when-uncrossed}
@@ -158,7 +159,7 @@ module _ (s : State) (h : Sound s) (law : while-trading (s .phase) s) where
       let found = call-price-found r lawful (s .settings) (h .valid) (s .orders) in
       auction-cases r s tape scratch Uncrossed-after (λ k. law)
       (λ _ e _. unpriced-uncrossed (s .settings) (s .orders) 0 (s .last) (h .standing) (subst (Found r (s .settings) (s .orders)) e found))
-      (λ _ x e _. let b : Best r (s .settings) (s .orders) x = subst (Found r (s .settings) (s .orders)) e found in
+      (λ _ x e _. let b : First-price r (s .settings) (s .orders) x = subst (Found r (s .settings) (s .orders)) e found in
       struck-uncrossed (s .settings) (s .orders) 0 (s .last) (x .price) (traded x) (h .standing) (sym (ap traded (b .is))) (b .most))
 
   pub step-uncrossed : (r : Rule) → Lawful r → (tape scratch : ℕ) (c : Call) → Uncrossed-after (step r tape scratch s c)

@@ -9,7 +9,7 @@ use Rattle.std.specs.declared.option.Option.the-variants.{None, Some}
 use Rattle.std.specs.shelf.Lists.{All}
 use Rattle.model.specs.Types.{Side, Buy, Sell, Order, Point, TapeRecord, Trade, Withdrawal}
 use Rattle.model.specs.Grid.{Settings, on-grid}
-use Rattle.model.specs.Curve.{takes-part, point, curve}
+use Rattle.model.specs.Curve.{takes-part, point, curve, traded}
 use Rattle.model.specs.Rules.{Rule, most-traded, best, nearer, target-among}
 use Rattle.model.specs.Orders.{find, left-in}
 use Rattle.model.specs.State.{Outcome}
@@ -51,6 +51,22 @@ goes-before r g os q p =
     let x : Point = point g os q in
     let y : Point = point g os p in
     r .ahead x y || (not (r .ahead y x) && nearer (target-in r (g .indicative) (curve g os)) x y)
+
+-- no grid price trades more than v
+abbrev pub At-most : Settings → List Order → ℕ → Type 0
+At-most g os v = (q : ℕ) → on-grid g q ≡ true → traded (point g os q) ≤ v
+
+-- x is the point of a grid price, no grid price trades more, and none goes before it
+pub record First-price (r : Rule) (g : Settings) (os : List Order) (x : Point) : Type 0 where
+  pub on : on-grid g (x .price) ≡ true
+  pub is : point g os (x .price) ≡ x
+  pub most : At-most g os (traded x)
+  pub first : (q : ℕ) → on-grid g q ≡ true → goes-before (most-traded r) g os q (x .price) ≡ false
+
+-- what a call finds: the first price, or none where nothing trades at any grid price
+abbrev pub Found : Rule → Settings → List Order → Option Point → Type 0
+Found r g os None = At-most g os 0
+Found r g os (Some x) = First-price r g os x
 
 -- the trades among some records, as deals
 abbrev pub deals : List TapeRecord → List Deal
