@@ -17,7 +17,7 @@ returns g c =
     let done = c .in-Continue-count .ensures tt in
     let front = curve-front s os (c .in-Continue-count .count) (c .args .scratch .now) (c .write-curve .last .scratch) (done .value .0) (done .scratch) in
     let priced : c .if-trades .result ≡ call-price r s os =
-        c .if-trades .ensures ∙ ap if-trades (c .called-price-called .ensures .value ∙ ap (called (most-traded r) (s .indicative)) front) in
+    c .if-trades .ensures ∙ ap if-trades (c .called-price-called .ensures .value ∙ ap (called (most-traded r) (s .indicative)) front) in
     let law : Lawful r = record { asymmetric = g .R·PriceRule·met .asymmetric (c .args .rule .now .below); transitive = g .R·PriceRule·met .transitive (c .args .rule .now .below) } in
     record {
       value = (priced, done .value .1);
