@@ -22,6 +22,7 @@ pub mod Auctions
 pub mod Priority
 pub mod Parties
 pub mod Course
+pub mod Tapes
 pub mod OnTape
 pub mod Unique
 pub mod Promise

@@ -26,7 +26,7 @@ module _ (lo hi : ℕ) where
   trades-standing (Trade b s p q ∷ ts) os h = trades-standing ts (lower s q (lower b q os)) (lower-standing lo hi s q (lower b q os) (lower-standing lo hi b q os h))
   trades-standing (Withdrawal n q r ∷ ts) os h = trades-standing ts os h
 
-  trades-left : (ts : List TapeRecord) (os : List Order) → Standing lo os hi → All Two-parties ts → ((n : ℕ) → total-traded n ts ≤ left-in os n) → (n : ℕ)
+  pub trades-left : (ts : List TapeRecord) (os : List Order) → Standing lo os hi → All Two-parties ts → ((n : ℕ) → total-traded n ts ≤ left-in os n) → (n : ℕ)
       → left-in (apply-trades ts os) n + total-traded n ts ≡ left-in os n
   trades-left [] os h a lim n = omega arith
   trades-left (Trade b s p q ∷ ts) os h a lim n =

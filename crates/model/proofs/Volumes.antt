@@ -117,7 +117,7 @@ may-trade-party g s p n (x ∷ xs) h =
     (λ e k. (x, has-here x xs, k, eqb-true (x .number) n e))
     (λ e k. let r = may-trade-party g s p n xs k in (r .0, has-there x xs (r .0) (r .1), r .2, r .3)) h
 
-find-has : (os : List Order) → Distinct os → (o : Order) → Has os o → find (o .number) os ≡ Some o
+pub find-has : (os : List Order) → Distinct os → (o : Order) → Has os o → find (o .number) os ≡ Some o
 find-has [] d o h = absurd (has-none o h)
 find-has (x ∷ xs) d o h =
     ⊎-elim

@@ -1,5 +1,5 @@
 ghost use mathlib.Core.Path.{_≡_};
-ghost use Rattle.model.specs.Rank.{same-side};
+ghost use Rattle.model.specs.Rank.{opposite, same-side};
 use crate::types::Side;
 
 impl Side {
@@ -12,6 +12,16 @@ impl Side {
             (Side::Buy, Side::Sell) => false,
             (Side::Sell, Side::Buy) => false,
             (Side::Sell, Side::Sell) => true,
+        }
+    }
+
+    // The other side.
+    pub fn opposite(self) -> Side
+        ensures { λ r. ⌜ r ≡ opposite self ⌝ }
+    {
+        match self {
+            Side::Buy => Side::Sell,
+            Side::Sell => Side::Buy,
         }
     }
 }

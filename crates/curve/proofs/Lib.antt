@@ -1,0 +1,4 @@
+pub mod Volumes
+pub mod Counting
+pub mod Writing
+pub mod Whole

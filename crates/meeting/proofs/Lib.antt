@@ -1,0 +1,4 @@
+pub mod Commuting
+pub mod Lowered
+pub mod Onward
+pub mod Filled

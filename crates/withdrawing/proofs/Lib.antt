@@ -1,0 +1,3 @@
+pub mod Markets
+pub mod Walk
+pub mod Found
