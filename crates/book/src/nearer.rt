@@ -4,7 +4,10 @@ ghost use Rattle.book.specs.Plain.{plain, as-plain};
 use crate::standing::StandingOrder;
 
 // The lower-numbered of two orders, or the one that is there.
-pub fn lower_numbered(a: Option<StandingOrder>, b: Option<StandingOrder>) -> Option<StandingOrder>
+pub(crate) fn lower_numbered(
+    a: Option<StandingOrder>,
+    b: Option<StandingOrder>,
+) -> Option<StandingOrder>
     ensures { λ r. ⌜ as-plain r ≡ lower-numbered (as-plain a) (as-plain b) ⌝ }
 {
     match a {
@@ -17,7 +20,11 @@ pub fn lower_numbered(a: Option<StandingOrder>, b: Option<StandingOrder>) -> Opt
 }
 
 // The nearest order above a number, after one more order.
-pub fn nearer(number: u64, best: Option<StandingOrder>, o: StandingOrder) -> Option<StandingOrder>
+pub(crate) fn nearer(
+    number: u64,
+    best: Option<StandingOrder>,
+    o: StandingOrder,
+) -> Option<StandingOrder>
     ensures { λ r. ⌜ as-plain r ≡ nearer-of number (as-plain best) (plain o) ⌝ }
 {
     if number < o.number {

@@ -4,7 +4,7 @@ use model::Point;
 use model::Side;
 
 // The point at this price, with this volume as the demand of buys or the supply of sells.
-pub fn with_volume(side: Side, point: Point, price: u32, volume: u64) -> Point
+pub(crate) fn with_volume(side: Side, point: Point, price: u32, volume: u64) -> Point
     ensures { λ r. ⌜ r ≡ with-volume side point price volume ⌝ }
 {
     match side {

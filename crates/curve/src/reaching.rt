@@ -16,7 +16,13 @@ use model::Side;
 use walking::first_active;
 
 // Counts on from a mark, as far as the active orders allow the price.
-pub fn reach<B: Book>(book: &B, settings: &Settings, side: Side, price: u32, start: Mark) -> Mark
+pub(crate) fn reach<B: Book>(
+    book: &B,
+    settings: &Settings,
+    side: Side,
+    price: u32,
+    start: Mark,
+) -> Mark
     requires { ⌜ Counted (orders (now book)) start ⌝ }
     ensures counted { λ r. ⌜ Counted (orders (now (book .entry))) r ⌝ }
     ensures reached { λ r. ⌜ Reached (plain (now (settings .entry))) side (ranked side (orders (now (book .entry)))) price start r ⌝ }

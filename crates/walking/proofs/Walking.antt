@@ -1,51 +1,21 @@
 -- Walks over orders in rank, one place at a time.
-use mathlib.Core.Path.{_≡_, refl, sym, ap, subst, _∙_}
-use mathlib.Core.Bool.{Bool, true, false, cond}
+use Prim.Native.Nat.{ℕ, _+_, _≤_}
+use mathlib.Core.Bool.{true, false}
 use mathlib.Core.List.{List, [], _∷_}
-use Prim.Native.Nat.{ℕ, zero, suc, _+_, _≤_, _<_}
-use native.Mathlib.Numerals.{add-one}
-use native.Mathlib.Omega.{arith}
+use mathlib.Core.Path.{_≡_, ap, _∙_}
 use lib.ListN.{length, drop}
-use Rattle.std.specs.declared.option.Option.the-variants.{Some, None}
-use Rattle.std.proofs.shelf.Lists.{drop-drop, length-drop, drop-all}
-use Rattle.std.proofs.shelf.Tests.{cond-true, cond-false, cond-both}
+use Rattle.std.specs.declared.option.Option.the-variants.{Some}
+use Rattle.std.proofs.shelf.Tests.{cond-true, cond-false}
 use Rattle.model.specs.declared.types.Order.{Order}
 use Rattle.model.specs.declared.types.Side.{Side}
 use Rattle.model.specs.Grid.{Settings, active}
-use Rattle.model.specs.Rank.{before, insert, same-side, ranked}
-use Rattle.book.specs.Meaning.{first, place}
+use Rattle.model.specs.Rank.{ranked}
+use Rattle.book.specs.Meaning.{place}
+use Rattle.book.proofs.Places.{place-some, past-all}
 use Rattle.walking.specs.Walks.{actives}
 
-first-some : (ys : List Order) (o : Order) → first ys ≡ Some o → (0 < length ys) × (ys ≡ o ∷ drop 1 ys)
-first-some [] o h = let z : _≡_ {A = ℕ} 0 1 = cc in absurd (omega arith)
-first-some (y ∷ ys) o h = let e : y ≡ o = cc in (omega arith, ap (λ x. x ∷ ys) e)
-
-first-none : (ys : List Order) → first ys ≡ None → ys ≡ []
-first-none [] h = refl
-first-none (y ∷ ys) h = let z : _≡_ {A = ℕ} 0 1 = cc in absurd (omega arith)
-
--- what the (i + 1)-th order says of the orders after the first i
-pub place-some : (xs : List Order) (i : ℕ) (o : Order) → place (i + 1) xs ≡ Some o → (i < length xs) × (drop i xs ≡ o ∷ drop (i + 1) xs)
-place-some xs i o h =
-    let k : first (drop i xs) ≡ Some o = rw add-one at h in
-    let r = first-some (drop i xs) o k in
-    (omega (arith, r .0, length-drop i xs), r .1 ∙ ap (λ ys. o ∷ ys) (drop-drop 1 i xs))
-
-pub place-none : (xs : List Order) (i : ℕ) → place (i + 1) xs ≡ None → drop i xs ≡ []
-place-none xs i h = let k : first (drop i xs) ≡ None = rw add-one at h in first-none (drop i xs) k
-
-length-insert : (s : Side) (o : Order) (xs : List Order) → length (insert s o xs) ≡ suc (length xs)
-length-insert s o [] = refl
-length-insert s o (x ∷ xs) = cond-both (before s o x) _ _ (λ l. length l ≡ suc (suc (length xs))) (λ _. refl) (λ _. ap suc (length-insert s o xs))
-
-pub length-ranked : (s : Side) (os : List Order) → length (ranked s os) ≤ length os
-length-ranked s [] = omega arith
-length-ranked s (o ∷ os) =
-    let r = length-ranked s os in
-    cond-both (same-side s (o .side)) _ _ (λ l. length l ≤ suc (length os)) (λ _. omega (arith, length-insert s o (ranked s os))) (λ _. omega arith)
-
 -- one order on
-module _ (g : Settings) (xs : List Order) (i : ℕ) (o : Order) (h : place (i + 1) xs ≡ Some o) where
+module _ (g : Settings) (xs : List Order) (i : ℕ) (o : Order) (h : Some o ≡ place (i + 1) xs) where
   pub active-here : active g (o .price) ≡ true → actives g (drop i xs) ≡ o ∷ actives g (drop (i + 1) xs)
   active-here a = ap (actives g) (place-some xs i o h .1) ∙ cond-true (active g (o .price)) _ _ a
 
@@ -53,8 +23,5 @@ module _ (g : Settings) (xs : List Order) (i : ℕ) (o : Order) (h : place (i + 
   active-past a = ap (actives g) (place-some xs i o h .1) ∙ cond-false (active g (o .price)) _ _ a
 
 -- at the end
-pub active-none : (g : Settings) (xs : List Order) (i : ℕ) → place (i + 1) xs ≡ None → actives g (drop i xs) ≡ []
-active-none g xs i h = ap (actives g) (place-none xs i h)
-
 pub active-all : (g : Settings) (s : Side) (os : List Order) (i : ℕ) → length os ≤ i → actives g (drop i (ranked s os)) ≡ []
-active-all g s os i h = ap (actives g) (drop-all i (ranked s os) (omega (arith, length-ranked s os)))
+active-all g s os i h = ap (actives g) (past-all s os i h)

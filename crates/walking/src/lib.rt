@@ -1,7 +1,7 @@
 // The active orders of a side, one after another in rank.
+ghost use mathlib.Core.Bool.{not};
 ghost use mathlib.Core.Path.{_≡_};
-ghost use mathlib.Core.List.{List};
-ghost use Prim.Native.Nat.{ℕ};
+ghost use Rattle.model.specs.Grid.{active};
 ghost use Rattle.model.specs.Rank.{ranked};
 ghost use Rattle.grid.specs.Views.{plain};
 ghost use Rattle.walking.specs.Walks.{Next};
@@ -23,7 +23,7 @@ pub fn first_active<B: Book>(
     for i in from..count {
         match book.nth(side, i + 1) {
             Some(o) => {
-                if settings.active(o.price) {
+                if !passed_over(settings, o) {
                     return Some((i, o));
                 }
             }
@@ -31,4 +31,11 @@ pub fn first_active<B: Book>(
         }
     }
     None
+}
+
+// Whether a walk goes past an order: it never trades.
+fn passed_over(settings: &Settings, order: StandingOrder) -> bool
+    ensures { λ r. ⌜ r ≡ not (active (plain (now (settings .entry))) (order .price)) ⌝ }
+{
+    !settings.active(order.price)
 }

@@ -7,14 +7,14 @@ use model::OrderPrice;
 
 // Which orders are withdrawn.
 #[derive(Clone, Copy)]
-pub enum Which {
+pub(crate) enum Which {
     MarketOrders,
     AllOrders,
 }
 
 impl Which {
     // Whether an order is among them.
-    pub fn chooses(self, order: StandingOrder) -> bool
+    pub(crate) fn chooses(self, order: StandingOrder) -> bool
         ensures { λ r. ⌜ r ≡ chosen self (plain order) ⌝ }
     {
         match self {
@@ -25,7 +25,7 @@ impl Which {
 }
 
 // Whether a price is the mark market.
-pub fn is_market(price: OrderPrice) -> bool
+pub(crate) fn is_market(price: OrderPrice) -> bool
     ensures { λ r. ⌜ r ≡ is-market price ⌝ }
 {
     match price {
