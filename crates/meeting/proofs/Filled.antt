@@ -23,14 +23,18 @@ use Rattle.model.specs.Records.{written}
 use Rattle.model.specs.Trading.{limit, Fill, Met, met, add-fill, meet, after-fills}
 use Rattle.model.proofs.Lists.{has-here}
 use Rattle.model.proofs.Ranking.{Distinct, distinct-ranked}
+use Rattle.model.proofs.Commuting.{kept-lower, kept-ranked, ranked-lower, drop-lower, distinct-drop}
 use Rattle.model.proofs.Standing.{standing-distinct, standing-alive}
 use Rattle.model.proofs.Volumes.{find-has}
 use Rattle.book.specs.Meaning.{can-take}
 use Rattle.walking.specs.Walks.{actives, Found}
 use Rattle.meeting.specs.Plans.{meeting-of}
 use Rattle.meeting.specs.Fills.{fill-of}
-use Rattle.meeting.proofs.Commuting.{kept-ranked, actives-lower, ranked-lower, drop-lower, distinct-drop}
 use Rattle.meeting.proofs.Lowered.{actives-has}
+
+-- a filter by price does not look at what is left
+actives-lower : (g : Settings) (n q : ℕ) (os : List Order) → Distinct os → actives g (lower n q os) ≡ lower n q (actives g os)
+actives-lower g = kept-lower (λ o. active g (o .price)) (λ o q. refl)
 
 -- where a meeting ends, and where it goes on
 module _ (in-band : ℕ → Bool) (s : Side) (p : OrderPrice) where

@@ -1,4 +1,3 @@
-pub mod Commuting
 pub mod Lowered
 pub mod Onward
 pub mod Filled

@@ -20,12 +20,12 @@ use Rattle.model.specs.Orders.{Standing, lower}
 use Rattle.model.specs.Trading.{limit, Fill, Met, met, add-fill, meet, active-in-rank, after-fills, last-price}
 use Rattle.model.proofs.Lists.{cond-pair}
 use Rattle.model.proofs.Ranking.{Distinct}
+use Rattle.model.proofs.Commuting.{kept-ranked}
 use Rattle.model.proofs.Standing.{lower-standing, standing-distinct}
 use Rattle.walking.specs.Walks.{actives, Found}
 use Rattle.meeting.specs.declared.plans.Plan.{Plan}
 use Rattle.meeting.specs.Plans.{Planned, meeting-of, with-fill, with-interruption}
 use Rattle.meeting.specs.Fills.{fill-of}
-use Rattle.meeting.proofs.Commuting.{kept-ranked}
 use Rattle.meeting.proofs.Lowered.{actives-has, actives-distinct, has-lower, length-lower}
 
 -- the plan of q at price p before any fill

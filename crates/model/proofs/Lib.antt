@@ -3,6 +3,7 @@ pub mod GridPrices
 pub mod GridEnds
 pub mod Ranking
 pub mod Standing
+pub mod Commuting
 pub mod Taken
 pub mod Records
 pub mod Pairing
