@@ -5,7 +5,6 @@ ghost use Rattle.model.specs.Rank.{ranked};
 ghost use Rattle.model.specs.Calls.{is-market-order};
 ghost use Rattle.book.specs.Plain.{as-plain};
 ghost use Rattle.withdrawing.specs.Chosen.{market-found};
-use crate::which::is_market;
 use book::Book;
 use book::StandingOrder;
 use model::Side;
@@ -35,7 +34,7 @@ fn is_market_order(order: Option<StandingOrder>) -> bool
     ensures { λ r. ⌜ r ≡ market-found (as-plain order) ⌝ }
 {
     match order {
-        Some(o) => is_market(o.price),
+        Some(o) => o.price.is_market(),
         None => false,
     }
 }

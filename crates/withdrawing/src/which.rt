@@ -1,9 +1,7 @@
 ghost use mathlib.Core.Path.{_≡_};
-ghost use Rattle.model.specs.Orders.{is-market};
 ghost use Rattle.book.specs.Plain.{plain};
 ghost use Rattle.withdrawing.specs.Chosen.{chosen};
 use book::StandingOrder;
-use model::OrderPrice;
 
 // Which orders are withdrawn.
 #[derive(Clone, Copy)]
@@ -18,18 +16,8 @@ impl Which {
         ensures { λ r. ⌜ r ≡ chosen self (plain order) ⌝ }
     {
         match self {
-            Which::MarketOrders => is_market(order.price),
+            Which::MarketOrders => order.price.is_market(),
             Which::AllOrders => true,
         }
-    }
-}
-
-// Whether a price is the mark market.
-pub(crate) fn is_market(price: OrderPrice) -> bool
-    ensures { λ r. ⌜ r ≡ is-market price ⌝ }
-{
-    match price {
-        OrderPrice::Market => true,
-        OrderPrice::Limit(_) => false,
     }
 }
