@@ -1,0 +1,4 @@
+pub mod Parties
+pub mod Meetings
+pub mod Settled
+pub mod Counts
