@@ -7,10 +7,10 @@ use native.Mathlib.Omega.{arith}
 use lib.ListN.{length, drop}
 use Rattle.std.specs.declared.option.Option.the-variants.{Some, None}
 use Rattle.std.proofs.shelf.Lists.{drop-drop, length-drop, drop-all}
-use Rattle.std.proofs.shelf.Tests.{cond-both}
 use Rattle.model.specs.declared.types.Order.{Order}
 use Rattle.model.specs.declared.types.Side.{Side}
-use Rattle.model.specs.Rank.{before, insert, same-side, ranked}
+use Rattle.model.specs.Rank.{ranked}
+use Rattle.model.proofs.Lengths.{length-ranked}
 use Rattle.book.specs.Meaning.{first, place}
 
 first-some : (ys : List Order) (o : Order) → first ys ≡ Some o → (0 < length ys) × (ys ≡ o ∷ drop 1 ys)
@@ -30,16 +30,6 @@ place-some xs i o h =
 
 pub place-none : (xs : List Order) (i : ℕ) → None ≡ place (i + 1) xs → drop i xs ≡ []
 place-none xs i h = let k : first (drop i xs) ≡ None = rw add-one at (sym h) in first-none (drop i xs) k
-
-length-insert : (s : Side) (o : Order) (xs : List Order) → length (insert s o xs) ≡ suc (length xs)
-length-insert s o [] = refl
-length-insert s o (x ∷ xs) = cond-both (before s o x) _ _ (λ l. length l ≡ suc (suc (length xs))) (λ _. refl) (λ _. ap suc (length-insert s o xs))
-
-pub length-ranked : (s : Side) (os : List Order) → length (ranked s os) ≤ length os
-length-ranked s [] = omega arith
-length-ranked s (o ∷ os) =
-    let r = length-ranked s os in
-    cond-both (same-side s (o .side)) _ _ (λ l. length l ≤ suc (length os)) (λ _. omega (arith, length-insert s o (ranked s os))) (λ _. omega arith)
 
 -- no order has a place past the end
 pub past-all : (s : Side) (os : List Order) (i : ℕ) → length os ≤ i → drop i (ranked s os) ≡ []

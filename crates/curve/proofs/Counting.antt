@@ -23,7 +23,7 @@ use Rattle.model.specs.Rank.{ranked}
 use Rattle.model.proofs.Lists.{Pairwise, pairwise-kept}
 use Rattle.model.proofs.Ranking.{Wider, ranked-wider}
 use Rattle.walking.specs.Walks.{actives, Found}
-use Rattle.book.proofs.Places.{length-ranked}
+use Rattle.model.proofs.Lengths.{length-ranked}
 use Rattle.walking.proofs.Walking.{active-all}
 use Rattle.curve.specs.declared.marks.Mark.{Mark}
 use Rattle.curve.specs.Reaching.{mark-at, left-at, onward, Counted, Reached}

@@ -4,6 +4,7 @@ pub mod GridEnds
 pub mod Ranking
 pub mod Standing
 pub mod Commuting
+pub mod Lengths
 pub mod Taken
 pub mod Records
 pub mod Pairing

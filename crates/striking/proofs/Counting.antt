@@ -18,41 +18,23 @@ use Rattle.model.specs.declared.types.Order.{Order}
 use Rattle.model.specs.declared.types.TapeRecord.{TapeRecord}
 use Rattle.model.specs.declared.types.TapeRecord.the-variants.{Trade}
 use Rattle.model.specs.Grid.{Settings, active}
-use Rattle.model.specs.Rank.{before, insert, same-side, ranked}
+use Rattle.model.specs.Rank.{ranked}
 use Rattle.model.specs.Orders.{Standing, is-market, with-left}
 use Rattle.model.specs.Records.{traded-of, total-traded}
 use Rattle.model.specs.Calls.{is-market-order}
 use Rattle.model.specs.Auction.{pair, trades-at, idle}
 use Rattle.model.proofs.Ranking.{Distinct, distinct-kept, distinct-ranked}
 use Rattle.model.proofs.Standing.{standing-distinct}
+use Rattle.model.proofs.Commuting.{rest-of, Lacks, distinct-drop, kept-ranked}
+use Rattle.model.proofs.Lengths.{length-ranked, kept-sides, length-kept-le}
 use Rattle.walking.specs.Walks.{actives}
-use Rattle.book.proofs.Places.{length-ranked}
-use Rattle.withdrawing.proofs.Markets.{length-kept-le}
 use Rattle.striking.specs.declared.sizes.Progress.{Progress}
 use Rattle.striking.specs.declared.sizes.Tally.{Tally}
 use Rattle.striking.specs.Parties.{willing, parties, Leads}
 use Rattle.striking.specs.Counts.{spend, first-left, fresh, progress, advanced, next-quantity, one-more, open-parties, open-trades, Side-counted, Counts}
-use Rattle.model.proofs.Commuting.{rest-of, Lacks, distinct-drop, kept-ranked}
 use Rattle.striking.proofs.Walked.{at-price-parties, has-at-place}
 use Rattle.striking.proofs.Stepping.{pair-step}
 use Rattle.striking.proofs.Trading.{sell-not-bought, buy-not-sold}
-
--- the orders of both sides are all orders
-length-insert : (s : Side) (o : Order) (xs : List Order) → length (insert s o xs) ≡ suc (length xs)
-length-insert s o [] = refl
-length-insert s o (x ∷ xs) = cond-both (before s o x) _ _ (λ l. length l ≡ suc (suc (length xs))) (λ _. refl) (λ _. ap suc (length-insert s o xs))
-
-length-first : (o : Order) (os : List Order) (r : Side) → length (ranked Buy os) + length (ranked Sell os) ≡ length os
-    → length (cond (same-side Buy r) (insert Buy o (ranked Buy os)) (ranked Buy os)) + length (cond (same-side Sell r) (insert Sell o (ranked Sell os)) (ranked Sell os)) ≡ suc (length os)
-length-first o os Buy i = omega (arith, length-insert Buy o (ranked Buy os))
-length-first o os Sell i = omega (arith, length-insert Sell o (ranked Sell os))
-
-length-sides : (os : List Order) → length (ranked Buy os) + length (ranked Sell os) ≡ length os
-length-sides [] = refl
-length-sides (o ∷ os) = length-first o os (o .side) (length-sides os)
-
-kept-sides : (f : Order → Bool) (os : List Order) → length (kept-by f (ranked Buy os)) + length (kept-by f (ranked Sell os)) ≡ length (kept-by f os)
-kept-sides f os = omega (arith, length-sides (kept-by f os), ap length (kept-ranked f Buy os), ap length (kept-ranked f Sell os))
 
 -- a filter that passes only active orders
 market-active : (g : Settings) (c : OrderPrice) → is-market c ≡ true → active g c ≡ true

@@ -15,7 +15,7 @@ use Rattle.model.specs.declared.types.OrderPrice.the-variants.{Market, Limit}
 use Rattle.model.specs.declared.types.Side.{Side}
 use Rattle.model.specs.declared.types.Side.the-variants.{Buy, Sell}
 use Rattle.model.specs.Orders.{Standing, is-market}
-use Rattle.model.specs.Rank.{same-side, price-first, before, insert, ranked}
+use Rattle.model.specs.Rank.{price-first, before, insert, ranked}
 use Rattle.model.specs.Calls.{is-market-order}
 use Rattle.model.proofs.Lists.{Pairwise}
 use Rattle.model.proofs.Ranking.{ranked-strictly}
@@ -27,40 +27,6 @@ use Rattle.withdrawing.specs.Chosen.{market-found}
 -- the market orders among some orders
 abbrev pub markets : List Order → List Order
 markets os = kept-by is-market-order os
-
--- how many orders pass
-abbrev tally : (Order → Bool) → List Order → ℕ
-tally p [] = 0
-tally p (o ∷ os) = cond (p o) 1 0 + tally p os
-
-tally-kept : (p : Order → Bool) (os : List Order) → length (kept-by p os) ≡ tally p os
-tally-kept p [] = refl
-tally-kept p (o ∷ os) =
-    let i = tally-kept p os in
-    elim (p o) as (λ v. length (cond v (o ∷ kept-by p os) (kept-by p os)) ≡ cond v 1 0 + tally p os) [ true ↦ omega arith | false ↦ omega arith ]
-
-tally-insert : (p : Order → Bool) (s : Side) (o : Order) (xs : List Order) → tally p (insert s o xs) ≡ tally p (o ∷ xs)
-tally-insert p s o [] = refl
-tally-insert p s o (x ∷ xs) = cond-both (before s o x) _ _ (λ l. tally p l ≡ tally p (o ∷ x ∷ xs)) (λ _. refl) (λ _. omega (arith, tally-insert p s o xs))
-
-tally-first : (p : Order → Bool) (o : Order) (os : List Order) (r : Side) → tally p (ranked Buy os) + tally p (ranked Sell os) ≡ tally p os
-    → tally p (cond (same-side Buy r) (insert Buy o (ranked Buy os)) (ranked Buy os)) + tally p (cond (same-side Sell r) (insert Sell o (ranked Sell os)) (ranked Sell os)) ≡ tally p (o ∷ os)
-tally-first p o os Buy i = omega (arith, tally-insert p Buy o (ranked Buy os))
-tally-first p o os Sell i = omega (arith, tally-insert p Sell o (ranked Sell os))
-
-tally-sides : (p : Order → Bool) (os : List Order) → tally p (ranked Buy os) + tally p (ranked Sell os) ≡ tally p os
-tally-sides p [] = refl
-tally-sides p (o ∷ os) = tally-first p o os (o .side) (tally-sides p os)
-
--- the market orders of both sides are those of the book
-pub both-sides : (os : List Order) → length (markets (ranked Buy os)) + length (markets (ranked Sell os)) ≡ length (markets os)
-both-sides os =
-    let p : Order → Bool = is-market-order in
-    omega (arith, tally-kept p (ranked Buy os), tally-kept p (ranked Sell os), tally-kept p os, tally-sides p os)
-
-pub length-kept-le : (p : Order → Bool) (os : List Order) → length (kept-by p os) ≤ length os
-length-kept-le p [] = omega arith
-length-kept-le p (o ∷ os) = let i = length-kept-le p os in cond-both (p o) _ _ (λ l. length l ≤ suc (length os)) (λ _. omega arith) (λ _. omega arith)
 
 -- at a market order there is one more
 pub market-here : (xs : List Order) (n : ℕ) (r : Option Order) → r ≡ place (n + 1) xs → true ≡ market-found r → (n < length xs) × (length (markets (drop n xs)) ≡ suc (length (markets (drop (n + 1) xs))))

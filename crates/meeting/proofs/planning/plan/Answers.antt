@@ -1,5 +1,5 @@
 use native.Mathlib.Omega.{arith}
-use Rattle.book.proofs.Places.{length-ranked}
+use Rattle.model.proofs.Lengths.{length-ranked}
 use Rattle.meeting.proofs.Onward.{ends-done, ends-none, ends-refused, ends-interrupted}
 use Rattle.meeting.proofs.planning.plan.Needs as need
 

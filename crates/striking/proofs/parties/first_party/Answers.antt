@@ -10,7 +10,7 @@ use Rattle.model.proofs.Standing.{standing-alive}
 use Rattle.book.specs.Plain.{plain}
 use Rattle.grid.specs.Views.{plain as plain-settings}
 use Rattle.walking.specs.Walks.{Found}
-use Rattle.book.proofs.Places.{length-ranked}
+use Rattle.model.proofs.Lengths.{length-ranked}
 use Rattle.striking.proofs.Walked.{party-here, party-none, has-at-place, ranked-stands}
 use Rattle.striking.proofs.parties.first_party.Needs as need
 

@@ -4,7 +4,7 @@ use lib.ListN.{length}
 use Rattle.model.specs.Numbers.{max-number}
 use Rattle.model.specs.Rank.{ranked}
 use Rattle.book.specs.Plain.{as-plain}
-use Rattle.book.proofs.Places.{length-ranked}
+use Rattle.model.proofs.Lengths.{length-ranked}
 use Rattle.withdrawing.proofs.Markets.{market-here, market-end}
 use Rattle.withdrawing.proofs.counting.markets_on.Needs as need
 
