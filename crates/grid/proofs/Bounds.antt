@@ -1,7 +1,6 @@
 -- Settings are valid, and the numbers of their grid are small.
 use Prim.Native.Nat.{ℕ, _+_, _-_, _*_, _/_, _≤_, _<_}
-use mathlib.Core.Path.{_≡_}
-use native.Mathlib.Nat.{div-mul-le-self, mul-le-mul, mul-le-mul-left, mul-le-mul-right}
+use native.Mathlib.Nat.{div-mul-le-self, mul-le-mul, mul-le-mul-right}
 use native.Mathlib.Omega.{arith}
 use Rattle.model.specs.Numbers.{max-price}
 use Rattle.model.specs.Grid.{Settings, lowest, highest, count}

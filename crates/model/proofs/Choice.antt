@@ -1,5 +1,5 @@
 -- How a lawful rule chooses: a call finds the first grid price at which the most trades, or none where nothing trades.
-use Prim.Native.Nat.{ℕ, _≤_}
+use Prim.Native.Nat.{ℕ}
 use mathlib.Core.Bool.{Bool, true, false, not, _&&_, _||_}
 use mathlib.Core.List.{List, [], _∷_}
 use mathlib.Core.Logic.{⊎-elim}
@@ -13,13 +13,13 @@ use Rattle.std.proofs.shelf.Elements.{all-has, all-weaker}
 use Rattle.std.proofs.shelf.Tests.{and-left, and-right, cases-bool, cond-both, false≢true, ltb-false, not-from-false, not-from-true, not-true, or-from, or-parts}
 use Rattle.std.proofs.shelf.Ways.{tells}
 use Rattle.model.specs.Types.{Order, Point}
-use Rattle.model.specs.Grid.{Settings, on-grid}
+use Rattle.model.specs.Grid.{Settings}
 use Rattle.model.specs.Curve.{point, curve, traded, surplus}
 use Rattle.model.specs.Rules.{Rule, nearest, middle, over, most-traded, least-surplus, any, best, nearer, pick, target-among, choose, called}
 use Rattle.model.specs.Auction.{if-trades, call-price}
 use Rattle.model.specs.Lawful.{Lawful}
 use Rattle.model.specs.Making.{Valid}
-use Rattle.model.specs.Allocations.{target-in, goes-before, At-most, First-price, Found}
+use Rattle.model.specs.Allocations.{target-in, First-price, Found}
 use Rattle.model.proofs.Lists.{has-here, has-there, has-none, has-cases, all-from-has, has-kept, kept-has}
 use Rattle.model.proofs.GridPrices.{curve-has, has-curve, curve-not-empty}
 

@@ -1,5 +1,5 @@
 -- Two optimal outcomes of one auction answer the same, at the same price.
-use Prim.Native.Nat.{ℕ, _<_}
+use Prim.Native.Nat.{ℕ}
 use mathlib.Core.Bool.{false, not, _&&_}
 use mathlib.Core.List.{List}
 use mathlib.Core.Path.{_≡_, subst}
@@ -10,8 +10,7 @@ use Rattle.model.specs.Types.{Order, Point}
 use Rattle.model.specs.Grid.{Settings}
 use Rattle.model.specs.Curve.{point, curve}
 use Rattle.model.specs.Rules.{Rule, most-traded, nearer}
-use Rattle.model.specs.State.{Outcome}
-use Rattle.model.specs.Allocations.{target-in, goes-before, deals, Optimal, Optimum-is-unique}
+use Rattle.model.specs.Allocations.{target-in, goes-before, deals, Optimum-is-unique}
 
 -- of two points neither of which is nearer the prices are one
 neither-nearer : (target : ℕ) (x y : Point) → nearer target x y ≡ false → nearer target y x ≡ false → x .price ≡ y .price

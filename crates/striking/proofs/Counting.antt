@@ -3,7 +3,7 @@ use mathlib.Core.Path.{_≡_, refl, sym, ap, ap₂, subst, _∙_}
 use mathlib.Core.Bool.{Bool, true, false, cond, _&&_, _||_}
 use mathlib.Core.Logic.{_⊎_, inl, inr, ⊎-elim}
 use mathlib.Core.List.{List, [], _∷_}
-use Prim.Native.Nat.{ℕ, suc, _+_, _-_, _≤_, _<_}
+use Prim.Native.Nat.{ℕ, _+_, _-_, _≤_, _<_}
 use native.Mathlib.Omega.{arith}
 use lib.Dec.{leb, eqb}
 use lib.ListN.{length, drop}
@@ -25,7 +25,7 @@ use Rattle.model.specs.Calls.{is-market-order}
 use Rattle.model.specs.Auction.{pair, trades-at, idle}
 use Rattle.model.proofs.Ranking.{Distinct, distinct-kept, distinct-ranked}
 use Rattle.model.proofs.Standing.{standing-distinct}
-use Rattle.model.proofs.Commuting.{rest-of, Lacks, distinct-drop, kept-ranked}
+use Rattle.model.proofs.Commuting.{rest-of, Lacks, distinct-drop}
 use Rattle.model.proofs.Lengths.{length-ranked, kept-sides, length-kept-le}
 use Rattle.walking.specs.Walks.{actives}
 use Rattle.striking.specs.declared.sizes.Progress.{Progress}

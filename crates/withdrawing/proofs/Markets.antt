@@ -1,21 +1,19 @@
 -- The market orders of a book, counted from the front of each side's ranking.
-use Prim.Native.Nat.{ℕ, zero, suc, _+_, _≤_, _<_}
-use mathlib.Core.Bool.{Bool, true, false, cond}
+use Prim.Native.Nat.{ℕ, zero, suc, _+_, _<_}
+use mathlib.Core.Bool.{Bool, true, false}
 use mathlib.Core.List.{List, [], _∷_}
 use mathlib.Core.Path.{_≡_, refl, sym, ap, subst, _∙_}
-use native.Mathlib.Omega.{arith}
 use lib.ListN.{length, drop}
 use Rattle.std.specs.declared.option.Option.{Option}
 use Rattle.std.specs.declared.option.Option.the-variants.{Some, None}
 use Rattle.std.specs.shelf.Lists.{All, kept-by}
-use Rattle.std.proofs.shelf.Tests.{cond-both, cond-true, cond-false, false≢true, true≢false}
+use Rattle.std.proofs.shelf.Tests.{cond-true, cond-false, false≢true, true≢false}
 use Rattle.model.specs.declared.types.Order.{Order}
 use Rattle.model.specs.declared.types.OrderPrice.{OrderPrice}
 use Rattle.model.specs.declared.types.OrderPrice.the-variants.{Market, Limit}
 use Rattle.model.specs.declared.types.Side.{Side}
-use Rattle.model.specs.declared.types.Side.the-variants.{Buy, Sell}
 use Rattle.model.specs.Orders.{Standing, is-market}
-use Rattle.model.specs.Rank.{price-first, before, insert, ranked}
+use Rattle.model.specs.Rank.{price-first, before, ranked}
 use Rattle.model.specs.Calls.{is-market-order}
 use Rattle.model.proofs.Lists.{Pairwise}
 use Rattle.model.proofs.Ranking.{ranked-strictly}

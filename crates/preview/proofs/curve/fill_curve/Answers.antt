@@ -1,8 +1,8 @@
 use Prim.Native.Nat.{_+_, _*_, _<_}
-use mathlib.Core.Path.{_≡_, ap, _∙_}
+use mathlib.Core.Path.{ap, _∙_}
 use native.Mathlib.Omega.{arith}
 use lib.Dec.{ltb}
-use lib.ListN.{length, set}
+use lib.ListN.{set}
 use Rattle.std.proofs.shelf.Tests.{ltb-true}
 use Rattle.model.specs.Grid.{lowest, count}
 use Rattle.model.specs.Curve.{point}

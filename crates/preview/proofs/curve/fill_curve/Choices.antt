@@ -1,6 +1,5 @@
 use Prim.Native.Nat.{_-_, _≤_}
 use mathlib.Core.Path.{_≡_}
-use lib.ListN.{length}
 use Rattle.model.specs.Grid.{count}
 use Rattle.grid.specs.Views.{plain}
 use Rattle.preview.proofs.Filling.{filled}

@@ -1,8 +1,6 @@
-use Prim.Native.Nat.{_+_}
-use mathlib.Core.Bool.{Bool, true, false, cond}
-use mathlib.Core.Path.{_≡_, sym, _∙_, subst}
+use mathlib.Core.Path.{sym}
 use native.Mathlib.Omega.{arith}
-use lib.ListN.{getD, drop}
+use lib.ListN.{getD}
 use Rattle.std.proofs.shelf.Tests.{cond-true, cond-false}
 use Rattle.model.specs.Curve.{takes-part}
 use Rattle.grid.specs.Views.{plain}

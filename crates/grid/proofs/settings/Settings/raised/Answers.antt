@@ -1,4 +1,3 @@
-use Prim.Native.Nat.{_+_, _*_}
 use native.Mathlib.Omega.{arith}
 use Rattle.grid.specs.Views.{plain}
 use Rattle.grid.proofs.Bounds.{valid, place-small}
