@@ -58,7 +58,7 @@ module _ (s : State) (h : Sound s) (e : Entry) where
   withdrawn-accepts : Accepts s (e .quantity) (withdrawn-whole s e)
   withdrawn-accepts = accepts Trading (gone s (e .quantity) ConditionUnmet ∷ []) (s .orders) (stands-wider (s .orders) (h .standing)) (λ n. omega arith)
 
-  -- all but a rest is accounted for, and the rest stands or goes
+  -- all but what remains is accounted for, and what remains stands or is withdrawn
   settle-accepts : (ph : Phase) (ts : List TapeRecord) (os : List Order) (q : ℕ) (r : Disposition) → Standing 0 os (s .last)
       → ((n : ℕ) → left-in (s .orders) n + cond (eqb next n) (e .quantity) 0 ≡ (accounted-for ts os n) + cond (eqb next n) q 0)
       → Accepts s (e .quantity) (settle-remaining s e ph ts os q r)

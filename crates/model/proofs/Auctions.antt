@@ -52,7 +52,7 @@ module _ (r : Rule) (s : State) (h : Sound s) where
   alive : Alive os
   alive = standing-alive 0 (s .last) os (h .standing)
 
-  -- where no grid price trades a piece, no feasible allocation does
+  -- where nothing trades at any grid price, no feasible allocation does
   unpriced-optimal : At-most g os 0 → Optimal r g os (unpriced s) (g .indicative)
   unpriced-optimal most =
       let none : deals (map (withdrawal AfterAuction) (kept-by is-market-order os)) ≡ [] = deals-withdrawn [] AfterAuction (kept-by is-market-order os) in

@@ -31,7 +31,7 @@ abbrev pub filled-quantity : List Fill → ℕ
 filled-quantity [] = 0
 filled-quantity (f ∷ fs) = f .quantity + filled-quantity fs
 
--- no more than is left of each, and all but the rest
+-- no more than is left of each, and all but what remains
 pub meet-limited : (n : ℕ) (in-band : ℕ → Bool) (s : Side) (p : OrderPrice) (remaining : ℕ) (os : List Order) → filled-of n (meet in-band s p remaining os .fills) ≤ left-in os n
 meet-limited n in-band s p remaining [] = omega arith
 meet-limited n in-band s p remaining (o ∷ os) =

@@ -68,7 +68,7 @@ module _ (g : Settings) (p v : ℕ) (os : List Order) (distinct : Distinct os) (
   in-order Buy = buys-in-order p (at-price g Buy p os) (at-price g Sell p os) v (all-at-price g Sell p os (λ o. 1 ≤ o .left) alive) (distinct-at-price g Buy p os distinct) (apart-at-price g p os distinct)
   in-order Sell = sells-in-order p (at-price g Buy p os) (at-price g Sell p os) v (all-at-price g Sell p os (λ o. 1 ≤ o .left) alive) (distinct-at-price g Sell p os distinct) (apart-flip (at-price g Buy p os) (at-price g Sell p os) (apart-at-price g p os distinct))
 
-  -- of two orders that take part, one with a rest leaves nothing to one that it ranks before
+  -- of two orders that take part, one of which something remains leaves nothing to one that it ranks before
   trades-in-rank : (s : Side) (x y : Order) → Has os x → Has os y → takes-part g s p x ≡ true → takes-part g s p y ≡ true → before s x y ≡ true
       → traded-here x < x .left → traded-here y ≡ 0
   trades-in-rank s x y h k i j e =

@@ -109,7 +109,7 @@ module _ (g : Settings) (os : List Order) (lo hi p v : ℕ) (st : Standing lo os
   both-more Buy q l r = omega arith
   both-more Sell q l r = omega arith
 
-  -- of a side that is traded whole at p no order rests that allows the limit of one that rests on the other side
+  -- of a side that is traded whole at p no order remains that allows the limit of one that remains on the other side
   not-crossed : (s : Side) → v ≡ volume g s p os → At-most g os v → (x y : Order) → Resting s x → Resting (opposite s) y → (X Y : OrderPrice) → x .price ≡ X → y .price ≡ Y
       → active g (settled-price p X) ≡ true → active g (settled-price p Y) ≡ true → allows s (settled-price p X) (limit (settled-price p Y)) ≡ true → ⊥
   not-crossed s full most x y rx ry Market Y ex ey ax ay cross = omega (arith, resting-more s x p rx (rw ex) (rw ex) (rw ex))
@@ -151,7 +151,7 @@ module _ (g : Settings) (os : List Order) (lo hi p v : ℕ) (st : Standing lo os
       go x y rx ry ax ay (inl full) (inr l) = absurd (not-crossed Buy full most x y rx ry (x .price) (y .price) refl refl ax ay (allows-buy (settled-price p (x .price)) (after y) l))
       go x y rx ry ax ay (inr full) (inr l) = absurd (not-crossed Sell full most y x ry rx (y .price) (x .price) refl refl ay ax (allows-sell (settled-price p (y .price)) (after x) l))
 
--- where no grid price trades a piece, the limit orders do not cross
+-- where nothing trades at any grid price, the limit orders do not cross
 pub unpriced-uncrossed : (g : Settings) (os : List Order) (lo hi : ℕ) → Standing lo os hi → At-most g os 0 → Uncrossed g (kept-by (λ o. not (is-market (o .price))) os)
 unpriced-uncrossed g os lo hi st most = record {
   no-market = all-from-has (λ o. is-market (o .price) ≡ false) (kept-by lim os) (λ x m. limits x m);

@@ -61,13 +61,13 @@ module _ (p : ℕ) (bs ss : List Order) (v : ℕ) (alive : Alive ss) where
       let r = pair-pairs p bs ss v alive in
       omega (arith, traded-le-both n (pair p bs ss v), sold-le-traded n (pair p bs ss v), r .buys n, r .sells n, taken-missing (volume-of bs ss v) bs n h)
 
-  -- a buy with a rest leaves nothing to the later buys
+  -- a buy of which something remains leaves nothing to the later buys
   pub buys-in-order : Distinct bs → No-shared bs ss → Pairwise (λ x y. total-traded (x .number) (pair p bs ss v) < x .left → total-traded (y .number) (pair p bs ss v) ≡ 0) bs
   buys-in-order d a =
       pairwise-weaker-on (λ b. All (λ s. b .number ≡ s .number → ⊥) ss) (λ x y. taken (volume-of bs ss v) bs (x .number) < x .left → taken (volume-of bs ss v) bs (y .number) ≡ 0) (λ x y. total-traded (x .number) (pair p bs ss v) < x .left → total-traded (y .number) (pair p bs ss v) ≡ 0)
       (λ x y j k h l. traded-of-buy (y .number) k ∙ h (subst (λ z. z < x .left) (traded-of-buy (x .number) j) l)) bs a (taken-in-order (volume-of bs ss v) bs d)
 
-  -- a sell with a rest leaves nothing to the later sells
+  -- a sell of which something remains leaves nothing to the later sells
   pub sells-in-order : Distinct ss → No-shared ss bs → Pairwise (λ x y. total-traded (x .number) (pair p bs ss v) < x .left → total-traded (y .number) (pair p bs ss v) ≡ 0) ss
   sells-in-order d a =
       pairwise-weaker-on (λ s. All (λ b. s .number ≡ b .number → ⊥) bs) (λ x y. taken (volume-of bs ss v) ss (x .number) < x .left → taken (volume-of bs ss v) ss (y .number) ≡ 0) (λ x y. total-traded (x .number) (pair p bs ss v) < x .left → total-traded (y .number) (pair p bs ss v) ≡ 0)

@@ -1,4 +1,4 @@
--- Every call keeps the law of trading; what rests of an order is short of every active order of the other side.
+-- Every call keeps the law of trading; what remains of an order is short of every active order of the other side.
 use Prim.Native.Nat.{ℕ, zero, suc, _+_, _≤_, _<_}
 use mathlib.Core.Bool.{Bool, true, false}
 use mathlib.Core.List.{List, [], _∷_, map}
@@ -32,7 +32,7 @@ use Rattle.model.proofs.Sound.{unless-both, enter-cases, auction-cases, Sound}
 use Rattle.model.proofs.Uncrossing.{Left, fills-leave, uncrossed-left, uncrossed-lower, Uncrossed-after, Short-of, uncrossed-push, not-trading, phase-of-trading, uncrossed-in-trading, trading-when-uncrossed}
 use Rattle.model.proofs.Striking.{struck-uncrossed, unpriced-uncrossed}
 
--- with some rest and no interruption, what stands active of the other side after the fills is not allowed
+-- where something remains and nothing interrupts, what stands active of the other side after the fills is not allowed
 not-allowed : (g : Settings) (lo hi : ℕ) (s : Side) (p : OrderPrice) (fs : List Fill) (os : List Order) → Standing lo os hi
     → All (Done s p fs) (active-in-rank g (opposite s) os) → (y : Order) → Has (after-fills fs os) y → y .side ≡ opposite s → active g (y .price) ≡ true
     → allows s p (limit (y .price)) ≡ false
@@ -64,7 +64,7 @@ last-is-limit : (p : ℕ) (fs : List Fill) → is-market (last-price (Limit p) f
 last-is-limit p [] = refl
 last-is-limit p (f ∷ fs) = last-is-limit (f .price) fs
 
--- where a rest stands, it is no market order, and is short of what the order's price does not allow
+-- where what remains stands, it is no market order, and is short of what the order's price does not allow
 remaining-short : (c : Condition) (s : Side) (p : OrderPrice) (fs : List Fill) (remaining : ℕ) (q : OrderPrice) → disposition c p (met fs remaining false) ≡ stands q
     → (is-market q ≡ false) × ((y : OrderPrice) → allows s p (limit y) ≡ false → Short-of s q y)
 remaining-short Plain s Market [] remaining q e = let z : _≡_ {A = ℕ} 0 1 = cc in absurd (omega arith)

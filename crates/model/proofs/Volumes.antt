@@ -141,7 +141,7 @@ sell-share : (n : ℕ) (ds : List Deal) → share (λ d. d .sell) n ds ≤ quant
 sell-share n [] = omega arith
 sell-share n (d ∷ ds) = grind (arith, sell-share n ds)
 
--- orders that hold each deal's party bear all pieces
+-- orders that hold each deal's party bear the whole quantity
 borne : (party : Deal → ℕ) (os : List Order) (ds : List Deal) → All (λ d. (o : Order) × Has os o × (o .number ≡ party d)) ds
     → total-quantity ds ≤ sumBy (λ o. share party (o .number) ds) os
 borne party os [] h = omega arith

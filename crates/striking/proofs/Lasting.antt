@@ -74,14 +74,14 @@ lasts-none Sell xs = record { first = inl refl; last = λ _ d n h l. absurd (ome
 
 module _ (s : Side) (x : Order) (xs : List Order) (t : ℕ) (r : TapeRecord) (ts : List TapeRecord) (some : 1 ≤ t) (enough : t ≤ x .left) (is-party : (d : ℕ) → party s d r ≡ x .number)
     (shares : (n : ℕ) → share s n (r ∷ ts) ≡ cond (eqb (x .number) n) t 0 + share s n ts) (i : Lasts s (rest-of x t xs) ts) where
-  -- what the rest has under the number of the first order, and under another
+  -- what remains has under the number of the first order, and under another
   rest-own : (n : ℕ) → x .number ≡ n → left-in (rest-of x t xs) n + t ≡ x .left + left-in xs n
   rest-own n e = cond-both (leb (x .left) t) _ _ (λ l. left-in l n + t ≡ x .left + left-in xs n) (λ w. omega (arith, leb-true (x .left) t w)) (λ w. omega (arith, counts (x .number) n (x .left - t) e))
 
   rest-other : (n : ℕ) → (x .number ≡ n → ⊥) → left-in (rest-of x t xs) n ≡ left-in xs n
   rest-other n e = cond-both (leb (x .left) t) _ _ (λ l. left-in l n ≡ left-in xs n) (λ _. refl) (λ _. omega (arith, counts-not (x .number) n (x .left - t) e))
 
-  -- the first order has a rest that does not trade
+  -- something of the first order remains that does not trade
   ends : (n : ℕ) → x .number ≡ n → t < x .left → share s n ts ≡ 0 → last-party s (x .number) ts ≡ n
   ends n e l z =
       let same : rest-of x t xs ≡ with-left x (x .left - t) ∷ xs = cond-false (leb (x .left) t) _ _ (lt-leb (x .left) t l) in
