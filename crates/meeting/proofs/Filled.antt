@@ -102,7 +102,7 @@ takes-place lo hi q os o st h l =
 pub record Left (g : Settings) (reference : ℕ) (s other : Side) (p : OrderPrice) (f : Fill → TapeRecord) (final : List Order) (full : List TapeRecord) (q : ℕ) (os : List Order) (tape : List TapeRecord) (at from : ℕ) : Type 0 where
   pub orders : after-fills (meeting-of g reference s p q os .fills) os ≡ final
   pub shown : written tape at (map f (meeting-of g reference s p q os .fills)) ≡ full
-  pub room : at + length (meeting-of g reference s p q os .fills) ≤ length tape
+  pub room : length (meeting-of g reference s p q os .fills) ≤ length tape - at
   pub passed : actives g (drop from (ranked other os)) ≡ actives g (ranked other os)
 
 module _ {g : Settings} {reference : ℕ} {s other : Side} {p : OrderPrice} {f : Fill → TapeRecord} {final : List Order} {full : List TapeRecord} {q : ℕ} {os : List Order} {tape : List TapeRecord} {at from : ℕ} (e : other ≡ opposite s) (h : Left g reference s other p f final full q os tape at from) where

@@ -99,7 +99,7 @@ pub fn carry_out<B: Book>(
     tape: &mut [TapeRecord],
     at: usize,
 )
-    requires { ⌜ at + length (meeting-of (plain-settings (now settings)) reference side price quantity (orders (now book)) .fills) ≤ length (now tape) ⌝ }
+    requires { ⌜ length (meeting-of (plain-settings (now settings)) reference side price quantity (orders (now book)) .fills) ≤ length (now tape) - at ⌝ }
     ensures orders { λ _. ⌜ orders (now (book .exit)) ≡ after-fills (meeting-of (plain-settings (now (settings .entry))) reference side price quantity (orders (now (book .entry))) .fills) (orders (now (book .entry))) ⌝ }
     ensures capacity { λ _. ⌜ capacity (now (book .exit)) ≡ capacity (now (book .entry)) ⌝ }
     ensures tape { λ _. ⌜ now (tape .exit) ≡ written (now (tape .entry)) at (map (trade-of side number) (meeting-of (plain-settings (now (settings .entry))) reference side price quantity (orders (now (book .entry))) .fills)) ⌝ }

@@ -1,7 +1,7 @@
 -- A pairing on its way: what is still to trade completes what was traded.
 use mathlib.Core.Path.{_≡_}
 use mathlib.Core.List.{List}
-use Prim.Native.Nat.{ℕ, _+_}
+use Prim.Native.Nat.{ℕ, _+_, _≤_}
 use lib.ListN.{length}
 use Rattle.model.specs.declared.types.Side.the-variants.{Buy, Sell}
 use Rattle.model.specs.declared.types.Order.{Order}
@@ -18,6 +18,7 @@ pub record Completes (ts us : List TapeRecord) (os now : List Order) (tape tape�
   pub orders : apply-trades us now ≡ apply-trades ts os
   pub shown : written tape′ next us ≡ written tape at ts
   pub places : next + length us ≡ at + length ts
+  pub later : at ≤ next
   pub buy : last-party Buy (last .buy) us ≡ last-party Buy 0 ts
   pub sell : last-party Sell (last .sell) us ≡ last-party Sell 0 ts
 

@@ -1,5 +1,5 @@
 ghost use mathlib.Core.Path.{_≡_};
-ghost use Prim.Native.Nat.{_+_, _≤_};
+ghost use Prim.Native.Nat.{_+_, _-_, _≤_};
 ghost use lib.ListN.{length};
 ghost use Rattle.model.specs.declared.types.Side.the-variants.{Buy, Sell};
 ghost use Rattle.model.specs.Records.{written};
@@ -30,7 +30,7 @@ pub(crate) fn pair_orders<B: Book>(
     tape: &mut [TapeRecord],
     at: usize,
 ) -> Pairing
-    requires { ⌜ at + length (trades-at (plain (now settings)) price volume (orders (now book))) ≤ length (now tape) ⌝ }
+    requires { ⌜ length (trades-at (plain (now settings)) price volume (orders (now book))) ≤ length (now tape) - at ⌝ }
     ensures next { λ r. ⌜ r .next ≡ at + length (trades-at (plain (now (settings .entry))) price volume (orders (now (book .entry)))) ⌝ }
     ensures buy { λ r. ⌜ r .buy ≡ last-party Buy 0 (trades-at (plain (now (settings .entry))) price volume (orders (now (book .entry)))) ⌝ }
     ensures sell { λ r. ⌜ r .sell ≡ last-party Sell 0 (trades-at (plain (now (settings .entry))) price volume (orders (now (book .entry)))) ⌝ }

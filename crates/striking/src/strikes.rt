@@ -1,6 +1,6 @@
 ghost use mathlib.Core.Path.{_≡_};
 ghost use mathlib.Core.Bool.{true, not};
-ghost use Prim.Native.Nat.{_+_, _≤_};
+ghost use Prim.Native.Nat.{_+_, _-_, _≤_};
 ghost use lib.ListN.{length};
 ghost use Rattle.std.specs.shelf.Lists.{kept-by};
 ghost use Rattle.model.specs.Grid.{on-grid};
@@ -35,7 +35,7 @@ fn trade_volume<B: Book>(
     at: usize,
 ) -> usize
     requires grid { ⌜ on-grid (plain (now settings)) price ≡ true ⌝ }
-    requires places { ⌜ at + length (trades-at (plain (now settings)) price volume (orders (now book))) ≤ length (now tape) ⌝ }
+    requires places { ⌜ length (trades-at (plain (now settings)) price volume (orders (now book))) ≤ length (now tape) - at ⌝ }
     ensures next { λ r. ⌜ r ≡ at + length (trades-at (plain (now (settings .entry))) price volume (orders (now (book .entry)))) ⌝ }
     ensures idle { λ _. ⌜ kept-by is-market-order (orders (now (book .exit))) ≡ kept-by (idle (trades-at (plain (now (settings .entry))) price volume (orders (now (book .entry))))) (orders (now (book .entry))) ⌝ }
     ensures others { λ _. ⌜ kept-by (λ o. not (is-market-order o)) (orders (now (book .exit))) ≡ struck-orders price (trades-at (plain (now (settings .entry))) price volume (orders (now (book .entry)))) (orders (now (book .entry))) ⌝ }
@@ -58,7 +58,7 @@ pub fn strike<B: Book>(
     at: usize,
 ) -> usize
     requires grid { ⌜ on-grid (plain (now settings)) price ≡ true ⌝ }
-    requires places { ⌜ at + length (struck-records (trades-at (plain (now settings)) price volume (orders (now book))) (orders (now book))) ≤ length (now tape) ⌝ }
+    requires places { ⌜ length (struck-records (trades-at (plain (now settings)) price volume (orders (now book))) (orders (now book))) ≤ length (now tape) - at ⌝ }
     ensures answer { λ r. ⌜ r ≡ length (struck-records (trades-at (plain (now (settings .entry))) price volume (orders (now (book .entry)))) (orders (now (book .entry)))) ⌝ }
     ensures after { λ _. ⌜ orders (now (book .exit)) ≡ struck-orders price (trades-at (plain (now (settings .entry))) price volume (orders (now (book .entry)))) (orders (now (book .entry))) ⌝ }
     ensures room { λ _. ⌜ capacity (now (book .exit)) ≡ capacity (now (book .entry)) ⌝ }

@@ -34,6 +34,7 @@ pub record Walk (p : Order → Bool) (rec : Order → TapeRecord) (at : ℕ) (os
   pub orders : front ++ others p back ≡ others p os₀
   pub records : written t next (map rec (kept-by p back)) ≡ written t₀ at (map rec (kept-by p os₀))
   pub places : next + length (kept-by p back) ≡ at + length (kept-by p os₀)
+  pub later : at ≤ next
 
 -- an order between those up to a number and those above its own
 above : (lo hi : ℕ) (front : List Order) (o : Order) (rest : List Order) → Standing lo (front ++ o ∷ rest) hi → (1 ≤ o .left) × All (λ x. o .number < x .number) rest
@@ -86,6 +87,7 @@ module _ (p : Order → Bool) (rec : Order → TapeRecord) (at : ℕ) where
         orders = refl;
         records = refl;
         places = refl;
+        later = omega arith;
       }
 
   -- at the next order
@@ -132,6 +134,7 @@ module _ (p : Order → Bool) (rec : Order → TapeRecord) (at : ℕ) where
           orders = ap (λ l. w .front ++ l) (sym d) ∙ w .orders;
           records = ap (λ l. written t next (map rec l)) (sym b) ∙ w .records;
           places = omega (arith, w .places, ap length b);
+          later = omega (arith, w .later);
         }
 
     kept : p o ≡ false → Walk p rec at os₀ t₀ os t (o .number) (next + 0)
@@ -147,6 +150,7 @@ module _ (p : Order → Bool) (rec : Order → TapeRecord) (at : ℕ) where
           orders = append-assoc (w .front) (o ∷ []) (others p rest) ∙ ap (λ l. w .front ++ l) (sym d) ∙ w .orders;
           records = ap (λ i. written t i (map rec passed)) (add-zero next) ∙ ap (λ l. written t next (map rec l)) (sym b) ∙ w .records;
           places = omega (arith, w .places, ap length b);
+          later = omega (arith, w .later);
         }
 
     -- it is withdrawn if it is chosen

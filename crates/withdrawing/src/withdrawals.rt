@@ -1,7 +1,7 @@
 ghost use mathlib.Core.Path.{_≡_};
 ghost use mathlib.Core.Bool.{true, not, cond};
 ghost use mathlib.Core.List.{[], _∷_, map};
-ghost use Prim.Native.Nat.{_+_, _≤_, _<_};
+ghost use Prim.Native.Nat.{_+_, _-_, _≤_, _<_};
 ghost use lib.ListN.{length, set};
 ghost use Rattle.std.specs.Options.{isSome};
 ghost use Rattle.std.specs.shelf.Lists.{kept-by};
@@ -21,7 +21,7 @@ use model::TapeRecord;
 
 // Withdraws every market order, by number, and answers how many.
 pub fn withdraw_markets<B: Book>(book: &mut B, tape: &mut [TapeRecord], at: usize) -> usize
-    requires { ⌜ at + length (kept-by is-market-order (orders (now book))) ≤ length (now tape) ⌝ }
+    requires { ⌜ length (kept-by is-market-order (orders (now book))) ≤ length (now tape) - at ⌝ }
     ensures answer { λ r. ⌜ r ≡ length (kept-by is-market-order (orders (now (book .entry)))) ⌝ }
     ensures after { λ _. ⌜ orders (now (book .exit)) ≡ kept-by (λ o. not (is-market-order o)) (orders (now (book .entry))) ⌝ }
     ensures room { λ _. ⌜ capacity (now (book .exit)) ≡ capacity (now (book .entry)) ⌝ }
@@ -32,7 +32,7 @@ pub fn withdraw_markets<B: Book>(book: &mut B, tape: &mut [TapeRecord], at: usiz
 
 // Withdraws every order, by number, and answers how many.
 pub fn withdraw_all<B: Book>(book: &mut B, tape: &mut [TapeRecord], at: usize) -> usize
-    requires { ⌜ at + length (orders (now book)) ≤ length (now tape) ⌝ }
+    requires { ⌜ length (orders (now book)) ≤ length (now tape) - at ⌝ }
     ensures answer { λ r. ⌜ r ≡ length (orders (now (book .entry))) ⌝ }
     ensures after { λ _. ⌜ orders (now (book .exit)) ≡ [] ⌝ }
     ensures room { λ _. ⌜ capacity (now (book .exit)) ≡ capacity (now (book .entry)) ⌝ }
@@ -63,7 +63,7 @@ fn withdraw_chosen<B: Book>(
     tape: &mut [TapeRecord],
     at: usize,
 ) -> usize
-    requires { ⌜ at + length (kept-by (chosen which) (orders (now book))) ≤ length (now tape) ⌝ }
+    requires { ⌜ length (kept-by (chosen which) (orders (now book))) ≤ length (now tape) - at ⌝ }
     ensures answer { λ r. ⌜ r ≡ length (kept-by (chosen which) (orders (now (book .entry)))) ⌝ }
     ensures after { λ _. ⌜ orders (now (book .exit)) ≡ kept-by (λ o. not (chosen which o)) (orders (now (book .entry))) ⌝ }
     ensures room { λ _. ⌜ capacity (now (book .exit)) ≡ capacity (now (book .entry)) ⌝ }

@@ -25,7 +25,7 @@ withdraw-if-next-requires g c κs =
     let e = c .in-Some .ensures tt in
     record {
       whole = takes p rec at max-number os₀ (c .args .tape .now) os (c .walk .tape) (c .walk .last) (c .walk .next) w st o e;
-      place = λ h. omega (arith, c .pre, comes p rec at max-number os₀ (c .args .tape .now) os (c .walk .tape) (c .walk .last) (c .walk .next) w st o e h);
+      place = λ h. omega (arith, c .pre, w .later, comes p rec at max-number os₀ (c .args .tape .now) os (c .walk .tape) (c .walk .last) (c .walk .next) w st o e h);
     }
 
 pub walk-less : need.walk-less
