@@ -38,7 +38,6 @@ pub(crate) struct Tally {
     pub(crate) sells: Progress,
 }
 
-// Whether a price is the mark market.
 // A side after a trade of its first party, which counts once where it is a market order.
 fn advance(side: Progress, first: (usize, StandingOrder), quantity: u64) -> Progress
     requires place { ⌜ first .0 < max-capacity ⌝ }
