@@ -26,5 +26,6 @@ pub mod Parties
 pub mod Course
 pub mod Tapes
 pub mod OnTape
+pub mod Running
 pub mod Unique
 pub mod Promise

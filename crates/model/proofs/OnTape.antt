@@ -33,7 +33,7 @@ pub written-places : (tape : List TapeRecord) (used : ℕ) (rs : List TapeRecord
 written-places tape used rs h = written-sets tape used rs ∙ sets-eq rs tape used h ∙ append-assoc (take used tape) rs (drop (used + length rs) tape)
 
 -- a session counts the places that an outcome used
-abbrev Counted : State → Outcome → Type 0
+abbrev pub Counted : State → Outcome → Type 0
 Counted s o = o .state .used ≡ s .used + length (o .records)
 
 module _ (s : State) (e : Entry) where
@@ -91,7 +91,7 @@ module _ (tape : ℕ) (s : State) where
       (λ z. record { counted = refl; free = last-asked (closed s) (ask-yes (takes-close (s .phase)) WrongPhase (places (closed s)) (omega arith) z .1) })
 
 module _ (r : Rule) (tape scratch : ℕ) where
-  step-placed : (s : State) (c : Call) → Placed tape s (step r tape scratch s c)
+  pub step-placed : (s : State) (c : Call) → Placed tape s (step r tape scratch s c)
   step-placed s (Enter e) =
       enter-cases s e tape (Placed tape s) (refused tape s)
       (λ a. record { counted = accepted-counted s e; free = leb-true (length (accepted s e .records)) (free s tape) (a .places) })

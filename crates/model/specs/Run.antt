@@ -2,6 +2,7 @@
 use Prim.Native.Nat.{ℕ}
 use mathlib.Core.Bool.{cond}
 use mathlib.Core.List.{List, [], _∷_, _++_, map}
+use mathlib.Core.Path.{_≡_}
 use lib.Dec.{leb}
 use lib.ListN.{length, drop}
 use Rattle.model.specs.Types.{Point, AnswersTooShort, TapeRecord, Call, Enter, Withdraw, BeginRandom, Auction, Close, Answer}
@@ -68,3 +69,10 @@ abbrev pub scratch-run : State → List Call → List Outcome → List Point →
 scratch-run s [] os scratch = scratch
 scratch-run s (c ∷ cs) [] scratch = scratch
 scratch-run s (c ∷ cs) (o ∷ os) scratch = scratch-run (o .state) cs os (scratch-step s c scratch)
+
+-- a list of calls ran from one session to another: the state, the answers, the tape and the scratch before it and after it
+pub record Ran (r : Rule) (T X : ℕ) (before s : State) (cs : List Call) (a₀ a : List Answer) (t₀ t : List TapeRecord) (x₀ x : List Point) : Type 0 where
+  pub state : s ≡ after before (run r T X before cs)
+  pub answers : a ≡ answers-after a₀ (run r T X before cs)
+  pub tape : t ≡ tape-after t₀ before (run r T X before cs)
+  pub scratch : x ≡ scratch-run before cs (run r T X before cs) x₀

@@ -10,6 +10,7 @@ pub use Rattle.model.specs.declared.types.Order.{Order}
 pub use Rattle.model.specs.declared.types.Point.{Point}
 pub use Rattle.model.specs.declared.types.Phase.{Phase}
 pub use Rattle.model.specs.declared.types.Phase.the-variants.{PreOpening, Random, Called, Trading, Closed}
+pub use Rattle.model.specs.declared.types.DayState.{DayState}
 pub use Rattle.model.specs.declared.types.Refusal.{Refusal}
 pub use Rattle.model.specs.declared.types.Refusal.the-variants.{SettingsOutOfRange, IndicativePrice, BookNotEmpty, WrongPhase, UnknownMember, Quantity, Price, ConditionOutsideTrading, NumbersExhausted, CapacityReached, TapeFull, UnknownOrder, ForeignCalledPrice, ScratchTooShort, AnswersTooShort}
 pub use Rattle.model.specs.declared.types.Reason.{Reason}

@@ -1,5 +1,6 @@
 // The vocabulary of a session, its definition and its laws.
 mod codes;
+mod days;
 mod laws;
 mod orders;
 mod outcomes;
@@ -12,6 +13,7 @@ pub use outcomes::known_outcomes_hold;
 pub use types::Answer;
 pub use types::Call;
 pub use types::Condition;
+pub use types::DayState;
 pub use types::Entry;
 pub use types::Order;
 pub use types::OrderPrice;

@@ -58,6 +58,16 @@ pub enum Phase {
     Closed,
 }
 
+// How far a session has come in its day: its phase, the price that the static band lies about,
+// the last order number given, and how many places of the tape are used.
+#[derive(Clone, Copy)]
+pub struct DayState {
+    pub phase: Phase,
+    pub reference: u32,
+    pub last: u64,
+    pub used: usize,
+}
+
 // Why a call is refused.
 #[derive(Clone, Copy)]
 pub enum Refusal {

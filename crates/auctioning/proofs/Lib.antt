@@ -1,0 +1,3 @@
+pub mod Tapes
+pub mod Found
+pub mod Outcomes

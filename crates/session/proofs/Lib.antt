@@ -1,0 +1,4 @@
+pub mod Asked
+pub mod Fine
+pub mod Turning
+pub mod Auctions

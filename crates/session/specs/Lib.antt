@@ -1,0 +1,4 @@
+pub mod Called
+pub mod Views
+pub mod Lists
+pub mod Tokens
