@@ -1,4 +1,6 @@
 // A book in one lent slice, its orders in the order in which they came.
+#![tactic(auto)]
+
 mod arrival;
 mod front;
 mod fronts;

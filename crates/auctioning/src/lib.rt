@@ -1,4 +1,6 @@
 // The call for a price and its strike, over any book and any price rule.
+#![tactic(auto)]
+
 mod calls;
 mod days;
 mod places;

@@ -1,4 +1,6 @@
 // What a book means: the standing orders by number, a capacity, and the operations on them.
+#![tactic(auto)]
+
 mod making;
 mod meaning;
 mod nearer;

@@ -1,4 +1,6 @@
 // The demand and the supply at grid prices, over any book.
+#![tactic(auto)]
+
 mod curves;
 mod marks;
 mod points;

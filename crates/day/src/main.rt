@@ -1,4 +1,6 @@
 // Prints a day on both tables and under both rules, and the opening prices of some small books.
+#![tactic(auto)]
+
 mod curve;
 mod days;
 mod entries;

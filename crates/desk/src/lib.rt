@@ -1,4 +1,6 @@
 // A market's desk over any book and any rule: a called price that is shown before its strike, and a whole day from a list.
+#![tactic(auto)]
+
 mod days;
 mod ends;
 mod quotes;

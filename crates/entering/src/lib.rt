@@ -1,4 +1,6 @@
 // An order that is entered: its questions, and what becomes of it.
+#![tactic(auto)]
+
 mod carrying;
 mod courses;
 mod deciding;

@@ -1,4 +1,6 @@
 // The engine for callers in C and Rust: whole days on plain numbers.
+#![tactic(auto)]
+
 mod days;
 mod memory;
 mod raw;

@@ -1,4 +1,6 @@
 // Settings that keep their bounds, and the grid of prices that they give.
+#![tactic(auto)]
+
 mod bands;
 mod making;
 mod prices;

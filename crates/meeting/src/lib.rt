@@ -1,4 +1,6 @@
 // An order entered in trading: the plan of what it meets, and carrying it out.
+#![tactic(auto)]
+
 mod filling;
 mod limits;
 mod planning;

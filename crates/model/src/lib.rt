@@ -1,4 +1,6 @@
 // The vocabulary of a session, its definition and its laws.
+#![tactic(auto)]
+
 mod codes;
 mod days;
 mod laws;

@@ -1,4 +1,6 @@
 // Prints some small books, their curves, and the opening price under the rules of the markets.
+#![tactic(auto)]
+
 mod curve;
 mod page;
 

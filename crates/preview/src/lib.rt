@@ -1,4 +1,6 @@
 // The curve and the opening price of a slice of orders, with no book behind it.
+#![tactic(auto)]
+
 mod curve;
 mod faults;
 mod opening;

@@ -1,4 +1,6 @@
 // Price rules under their two laws, and the one choice of the called price.
+#![tactic(auto)]
+
 mod bottom;
 mod choice;
 mod layers;

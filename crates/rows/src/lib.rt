@@ -1,4 +1,6 @@
 // The plain rows that a table of orders is kept in: which of two comes first, and the standing order of a row.
+#![tactic(auto)]
+
 mod orders;
 mod ranks;
 

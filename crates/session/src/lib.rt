@@ -1,4 +1,6 @@
 // The session of one security's day: every call, the called price as a token, and the list.
+#![tactic(auto)]
+
 mod called;
 mod calls;
 mod entries;

@@ -1,4 +1,6 @@
 // The strike of an auction, over any book.
+#![tactic(auto)]
+
 mod meetings;
 mod pairing;
 mod parties;

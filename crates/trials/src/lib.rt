@@ -1,4 +1,6 @@
 // The known outcomes and every refusal, run on both tables.
+#![tactic(auto)]
+
 #[cfg(test)]
 mod market;
 #[cfg(test)]

@@ -1,4 +1,6 @@
 // The active orders of a side, one after another in rank.
+#![tactic(auto)]
+
 ghost use Rattle.std.specs.Prelude.{◌≡◌, not};
 ghost use Rattle.model.specs.Grid.{active};
 ghost use Rattle.model.specs.Rank.{ranked};

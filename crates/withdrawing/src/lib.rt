@@ -1,4 +1,6 @@
 // Withdrawals by number over any book, each with its tape record.
+#![tactic(auto)]
+
 mod counting;
 mod which;
 mod withdrawals;
