@@ -6,7 +6,7 @@ use Rattle.pricing.proofs.choice.best_ends.Goals as goal
 pub loop-p-preserved : goal.loop-p-preserved
 loop-p-preserved g c =
     let r = g.R.PriceRule.rule c.args.rule.now in
-    ends_turn r c.loop-p.found c.args.points.now c.loop-p.p-index blank c.ends-with.result c.loop-p-test.true c.ends-with.ensures ∙ c.loop-p.invariant
+    ends_turn r c.loop-p.found c.args.points.now c.loop-p.p-index blank c.ends_with.result c.loop-p-test.true c.ends_with.ensures ∙ c.loop-p.invariant
 
 pub returns : goal.returns
 returns g c =

@@ -2,7 +2,7 @@ use Rattle.std.proofs.Common.{◌∙◌}
 use Rattle.pricing.proofs.Ends.{blank}
 use Rattle.pricing.proofs.Level.{nearest_joined, nearest_turn, nearest_skip, nearest_last}
 use Rattle.pricing.proofs.choice.nearest_level.Goals as goal
-use Rattle.pricing.proofs.choice.nearest_level.Goals.{then-not-goes-ahead, else-not-goes-ahead}
+use Rattle.pricing.proofs.choice.nearest_level.Goals.{then-not-goes_ahead, else-not-goes_ahead}
 
 pub loop-p-preserved : goal.loop-p-preserved
 loop-p-preserved g c =
@@ -11,9 +11,9 @@ loop-p-preserved g c =
     let t = c.args.target in
     let ps = c.args.points.now in
     let i = c.loop-p.p-index in
-    elim c.if-not-goes-ahead.branch [
-      | then-not-goes-ahead w ↦ rw w.nearest_is (nearest_turn r b t c.loop-p.nearest ps i blank c.loop-p-test.true w.nearest-with.result w.if-not-goes-ahead.ensures w.nearest-with.ensures ∙ c.loop-p.invariant)
-      | else-not-goes-ahead w ↦ rw w.nearest_is (nearest_skip r b t c.loop-p.nearest ps i blank c.loop-p-test.true w.if-not-goes-ahead.ensures ∙ c.loop-p.invariant)
+    elim c.if-not-goes_ahead.branch [
+      | then-not-goes_ahead w ↦ rw w.nearest-is (nearest_turn r b t c.loop-p.nearest ps i blank c.loop-p-test.true w.nearest_with.result w.if-not-goes_ahead.ensures w.nearest_with.ensures ∙ c.loop-p.invariant)
+      | else-not-goes_ahead w ↦ rw w.nearest-is (nearest_skip r b t c.loop-p.nearest ps i blank c.loop-p-test.true w.if-not-goes_ahead.ensures ∙ c.loop-p.invariant)
     ]
 
 pub returns : goal.returns

@@ -4,11 +4,11 @@ use Rattle.grid.specs.Views.{plain}
 use Rattle.grid.proofs.Bounds.{valid, share_small, lowest_small}
 use Rattle.grid.proofs.settings.Settings.band_bottom.Goals as goal
 
-pub overflow-mul-result : goal.overflow-mul-result
-overflow-mul-result c = omega (arith, share_small c.args.self.now.indicative (100 - c.args.self.now.absolute) (omega arith) (omega arith))
+pub overflow_mul-result : goal.overflow_mul-result
+overflow_mul-result c = omega (arith, share_small c.args.self.now.indicative (100 - c.args.self.now.absolute) (omega arith) (omega arith))
 
-pub overflow-add-result : goal.overflow-add-result
-overflow-add-result c = omega (arith, share_small c.args.self.now.indicative (100 - c.args.self.now.absolute) (omega arith) (omega arith))
+pub overflow_add-result : goal.overflow_add-result
+overflow_add-result c = omega (arith, share_small c.args.self.now.indicative (100 - c.args.self.now.absolute) (omega arith) (omega arith))
 
 pub returns : goal.returns
 returns c =

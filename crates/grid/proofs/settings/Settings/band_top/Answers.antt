@@ -4,8 +4,8 @@ use Rattle.grid.specs.Views.{plain}
 use Rattle.grid.proofs.Bounds.{valid, share_small, highest_small}
 use Rattle.grid.proofs.settings.Settings.band_top.Goals as goal
 
-pub overflow-mul-top : goal.overflow-mul-top
-overflow-mul-top c = omega (arith, share_small c.args.self.now.indicative (100 + c.args.self.now.absolute) (omega arith) (omega arith))
+pub overflow_mul-top : goal.overflow_mul-top
+overflow_mul-top c = omega (arith, share_small c.args.self.now.indicative (100 + c.args.self.now.absolute) (omega arith) (omega arith))
 
 pub returns : goal.returns
 returns c =

@@ -3,8 +3,8 @@ use Rattle.grid.specs.Views.{plain}
 use Rattle.grid.proofs.Bounds.{valid, place_small}
 use Rattle.grid.proofs.settings.Settings.raised.Goals as goal
 
-pub overflow-mul-result : goal.overflow-mul-result
-overflow-mul-result c = omega (arith, place_small (plain c.args.self.now) (valid c.args.self.now) c.args.ticks c.requires)
+pub overflow_mul-result : goal.overflow_mul-result
+overflow_mul-result c = omega (arith, place_small (plain c.args.self.now) (valid c.args.self.now) c.args.ticks c.requires)
 
-pub overflow-add-result : goal.overflow-add-result
-overflow-add-result c = omega (arith, place_small (plain c.args.self.now) (valid c.args.self.now) c.args.ticks c.requires)
+pub overflow_add-result : goal.overflow_add-result
+overflow_add-result c = omega (arith, place_small (plain c.args.self.now) (valid c.args.self.now) c.args.ticks c.requires)

@@ -4,8 +4,8 @@ use Rattle.grid.specs.Views.{plain}
 use Rattle.grid.proofs.Bounds.{valid, highest_small, ends_ordered}
 use Rattle.grid.proofs.settings.Settings.span.Goals as goal
 
-pub overflow-sub-result : goal.overflow-sub-result
-overflow-sub-result c = omega (arith, ends_ordered (plain c.args.self.now) (valid c.args.self.now))
+pub overflow_sub-result : goal.overflow_sub-result
+overflow_sub-result c = omega (arith, ends_ordered (plain c.args.self.now) (valid c.args.self.now))
 
 pub returns : goal.returns
 returns c =
