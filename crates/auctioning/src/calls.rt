@@ -28,10 +28,10 @@ pub fn call<B: Book, R: PriceRule>(
     scratch: &mut [Point],
 ) -> Result<Option<Point>, Refusal>
     requires { is_random day.old.phase ≡ true }
-    ensures came { Came (call_outcome (R.PriceRule.rule rule.now.below) (view (plain settings.now) day.old (orders book.old) (capacity book.old)) (length tape.old) (length scratch.old)) (without_point result) (view (plain settings.now) day.new (orders book.new) (capacity book.new)) tape.old day.old.used tape.new }
-    ensures scratch { scratch.new ≡ scratch_after (view (plain settings.now) day.old (orders book.old) (capacity book.old)) scratch.old }
-    ensures price { Priced (R.PriceRule.rule rule.now.below) (plain settings.now) (orders book.old) result }
-    ensures room { capacity book.new ≡ capacity book.old }
+    ensures came { Came (call_outcome (R.rule rule.now.below) (view (plain settings.now) day.old (B.orders book.old) (B.capacity book.old)) (length tape.old) (length scratch.old)) (without_point result) (view (plain settings.now) day.new (B.orders book.new) (B.capacity book.new)) tape.old day.old.used tape.new }
+    ensures scratch { scratch.new ≡ scratch_after (view (plain settings.now) day.old (B.orders book.old) (B.capacity book.old)) scratch.old }
+    ensures price { Priced (R.rule rule.now.below) (plain settings.now) (B.orders book.old) result }
+    ensures room { B.capacity book.new ≡ B.capacity book.old }
 {
     let found = find_price(book, rule, settings, scratch)?;
     conclude(book, day, tape, found)
@@ -44,9 +44,9 @@ fn conclude<B: Book>(
     tape: &mut [TapeRecord],
     found: Option<Point>,
 ) -> Result<Option<Point>, Refusal>
-    ensures came { (g : PlainSettings) → Came (call_result (view g day.old (orders book.old) (capacity book.old)) (length tape.old) found) (without_point result) (view g day.new (orders book.new) (capacity book.new)) tape.old day.old.used tape.new }
+    ensures came { (g : PlainSettings) → Came (call_result (view g day.old (B.orders book.old) (B.capacity book.old)) (length tape.old) found) (without_point result) (view g day.new (B.orders book.new) (B.capacity book.new)) tape.old day.old.used tape.new }
     ensures same { IfOk result (λ x. x ≡ found) }
-    ensures room { capacity book.new ≡ capacity book.old }
+    ensures room { B.capacity book.new ≡ B.capacity book.old }
 {
     match found {
         Some(point) => {
@@ -63,9 +63,9 @@ fn begin_unpriced<B: Book>(
     day: &mut DayState,
     tape: &mut [TapeRecord],
 ) -> Result<Option<Point>, Refusal>
-    ensures came { (g : PlainSettings) → Came (call_result (view g day.old (orders book.old) (capacity book.old)) (length tape.old) None) (without_point result) (view g day.new (orders book.new) (capacity book.new)) tape.old day.old.used tape.new }
+    ensures came { (g : PlainSettings) → Came (call_result (view g day.old (B.orders book.old) (B.capacity book.old)) (length tape.old) None) (without_point result) (view g day.new (B.orders book.new) (B.capacity book.new)) tape.old day.old.used tape.new }
     ensures none { IfOk result (λ x. x ≡ None) }
-    ensures room { capacity book.new ≡ capacity book.old }
+    ensures room { B.capacity book.new ≡ B.capacity book.old }
 {
     if !markets_fit(book, tape, day.used) {
         return Err(Refusal::TapeFull);
@@ -78,7 +78,7 @@ fn begin_unpriced<B: Book>(
 
 // Whether the tape has a free place for every market order.
 fn markets_fit<B: Book>(book: &B, tape: &[TapeRecord], used: usize) -> bool
-    ensures { result ≡ nat_le (length (filter is_market_order (orders book.now))) (min (length tape.now) max_places - used) }
+    ensures { result ≡ nat_le (length (filter is_market_order (B.orders book.now))) (min (length tape.now) max_places - used) }
 {
     count_markets(book) <= free_places(tape, used)
 }

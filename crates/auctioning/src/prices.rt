@@ -20,8 +20,8 @@ pub(crate) fn find_price<B: Book, R: PriceRule>(
     settings: &Settings,
     scratch: &mut [Point],
 ) -> Result<Option<Point>, Refusal>
-    ensures value { MatchResult result (λ x. (nat_le (count (plain settings.now)) (length scratch.old) ≡ true) × (x ≡ call_price (R.PriceRule.rule rule.now.below) (plain settings.now) (orders book.now))) (λ e. (nat_le (count (plain settings.now)) (length scratch.old) ≡ false) × (e ≡ ScratchTooShort)) }
-    ensures scratch { scratch.new ≡ (if leb (count (plain settings.now)) (length scratch.old) then curve (plain settings.now) (orders book.now) ++ drop (count (plain settings.now)) scratch.old else scratch.old) }
+    ensures value { MatchResult result (λ x. (nat_le (count (plain settings.now)) (length scratch.old) ≡ true) × (x ≡ call_price (R.rule rule.now.below) (plain settings.now) (B.orders book.now))) (λ e. (nat_le (count (plain settings.now)) (length scratch.old) ≡ false) × (e ≡ ScratchTooShort)) }
+    ensures scratch { scratch.new ≡ (if leb (count (plain settings.now)) (length scratch.old) then curve (plain settings.now) (B.orders book.now) ++ drop (count (plain settings.now)) scratch.old else scratch.old) }
 {
     let Some(count) = write_curve(book, settings, scratch) else {
         return Err(Refusal::ScratchTooShort);
@@ -35,7 +35,7 @@ fn price_among<R: PriceRule>(
     settings: &Settings,
     points: &[Point],
 ) -> Option<Point>
-    ensures { result ≡ if_trades (called (most_traded (R.PriceRule.rule rule.now.below)) settings.now.indicative points.now) }
+    ensures { result ≡ if_trades (called (most_traded (R.rule rule.now.below)) settings.now.indicative points.now) }
 {
     if_trades(called_price(rule, points, settings.indicative))
 }

@@ -25,8 +25,8 @@ pub fn strike_called<B: Book>(
 ) -> Result<u64, Refusal>
     requires phase { day.old.phase ≡ Called price quantity }
     requires grid { on_grid (plain settings.now) price ≡ true }
-    ensures came { Came (strike_outcome (view (plain settings.now) day.old (orders book.old) (capacity book.old)) (length tape.old) price quantity) result (view (plain settings.now) day.new (orders book.new) (capacity book.new)) tape.old day.old.used tape.new }
-    ensures room { capacity book.new ≡ capacity book.old }
+    ensures came { Came (strike_outcome (view (plain settings.now) day.old (B.orders book.old) (B.capacity book.old)) (length tape.old) price quantity) result (view (plain settings.now) day.new (B.orders book.new) (B.capacity book.new)) tape.old day.old.used tape.new }
+    ensures room { B.capacity book.new ≡ B.capacity book.old }
 {
     let size = strike_size(book, settings, price, quantity);
     if !records_fit(size, tape, day.used) {

@@ -12,7 +12,7 @@ use model::Point;
 // A scratch with fewer places than the grid has prices is left as it was.
 pub fn write_curve<B: Book>(book: &B, settings: &Settings, scratch: &mut [Point]) -> Option<usize>
     ensures value { result ≡ (if nat_lt (length scratch.old) (count (plain settings.now)) then None else Some (count (plain settings.now))) }
-    ensures written { scratch.new ≡ (if nat_lt (length scratch.old) (count (plain settings.now)) then scratch.old else curve (plain settings.now) (orders book.now) ++ drop (count (plain settings.now)) scratch.old) }
+    ensures written { scratch.new ≡ (if nat_lt (length scratch.old) (count (plain settings.now)) then scratch.old else curve (plain settings.now) (B.orders book.now) ++ drop (count (plain settings.now)) scratch.old) }
 {
     let (lowest, places) = whole_grid(settings);
     if scratch.len() < places {

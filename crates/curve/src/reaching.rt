@@ -20,9 +20,9 @@ pub(crate) fn reach<B: Book>(
     price: u32,
     start: Mark,
 ) -> Mark
-    requires { Counted (orders book.now) start }
-    ensures counted { Counted (orders book.now) result }
-    ensures reached { Reached (plain settings.now) side (ranked side (orders book.now)) price start result }
+    requires { Counted (B.orders book.now) start }
+    ensures counted { Counted (B.orders book.now) result }
+    ensures reached { Reached (plain settings.now) side (ranked side (B.orders book.now)) price start result }
 {
     let mut mark = start;
     'walk: loop {

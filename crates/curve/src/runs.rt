@@ -14,7 +14,7 @@ use model::{Point, Side};
 // Writes the points of a run of prices a tick apart, from `from` up, one for each place of the slice.
 pub fn write_run<B: Book>(book: &B, settings: &Settings, from: u32, points: &mut [Point])
     requires { from + length points.old * settings.now.tick ≤ 200000 }
-    ensures { points.new ≡ map (point (plain settings.now) (orders book.now)) (prices_from settings.now.tick from (length points.old)) }
+    ensures { points.new ≡ map (point (plain settings.now) (B.orders book.now)) (prices_from settings.now.tick from (length points.old)) }
 {
     write_side(book, settings, Side::Buy, from, points);
     write_side(book, settings, Side::Sell, from, points);
@@ -23,7 +23,7 @@ pub fn write_run<B: Book>(book: &B, settings: &Settings, from: u32, points: &mut
 // Writes the price and the volume of one side to each point, from the side's best price on, and leaves the other side's volume.
 fn write_side<B: Book>(book: &B, settings: &Settings, side: Side, from: u32, points: &mut [Point])
     requires { from + length points.old * settings.now.tick ≤ 200000 }
-    ensures { SideWritten (plain settings.now) (orders book.now) side from points.old points.new }
+    ensures { SideWritten (plain settings.now) (B.orders book.now) side from points.old points.new }
 {
     let count = points.len();
     let mut mark = Mark { place: 0, total: 0 };

@@ -25,8 +25,8 @@ pub fn trade_day<B: Book + Drop, R: PriceRule + Drop>(
     tape: &mut [TapeRecord],
     scratch: &mut [Point],
 ) -> Result<DayEnd, Refusal>
-    ensures refusal { MatchResult result (λ _. day_refusal (given tick indicative absolute static_band) last_number (orders book) (length answers.old) calls.now ≡ no_refusal) (λ e. day_refusal (given tick indicative absolute static_band) last_number (orders book) (length answers.old) calls.now ≡ code e) }
-    ensures day { MatchResult result (λ d. Lived (R.PriceRule.rule rule) (length tape.old) (length scratch.old) (made (given tick indicative absolute static_band) last_number (orders book) (capacity book)) calls.now d answers.old answers.new tape.old tape.new scratch.old scratch.new) (λ _. Unlived answers.old answers.new tape.old tape.new scratch.old scratch.new) }
+    ensures refusal { MatchResult result (λ _. day_refusal (given tick indicative absolute static_band) last_number (B.orders book) (length answers.old) calls.now ≡ no_refusal) (λ e. day_refusal (given tick indicative absolute static_band) last_number (B.orders book) (length answers.old) calls.now ≡ code e) }
+    ensures day { MatchResult result (λ d. Lived (R.rule rule) (length tape.old) (length scratch.old) (made (given tick indicative absolute static_band) last_number (B.orders book) (B.capacity book)) calls.now d answers.old answers.new tape.old tape.new scratch.old scratch.new) (λ _. Unlived answers.old answers.new tape.old tape.new scratch.old scratch.new) }
 {
     match Session::new(
         tick,
@@ -50,7 +50,7 @@ pub fn trade_day<B: Book + Drop, R: PriceRule + Drop>(
 
 // What a session's day has come to after so many calls.
 fn day_end<B: Book, R: PriceRule>(session: &Session<B, R>, calls: usize) -> DayEnd
-    ensures { (result.calls ≡ calls) × (result.reference ≡ session.now.day.reference) × (result.used ≡ session.now.day.used) × (result.standing ≡ length (orders session.now.book)) }
+    ensures { (result.calls ≡ calls) × (result.reference ≡ session.now.day.reference) × (result.used ≡ session.now.day.used) × (result.standing ≡ length (B.orders session.now.book)) }
 {
     let (standing, _) = session.book().count();
     DayEnd {

@@ -19,11 +19,11 @@ pub fn call_shown<B: Book, R: PriceRule>(
     tape: &mut [TapeRecord],
     scratch: &mut [Point],
 ) -> Result<Option<CalledPrice>, Refusal>
-    ensures came { Came (call_outcome (R.PriceRule.rule session.old.rule.below) (state orders capacity session.old) (length tape.old) (length scratch.old)) (without_token result) (state orders capacity session.new) tape.old session.old.day.used tape.new }
+    ensures came { Came (call_outcome (R.rule session.old.rule.below) (state B.orders B.capacity session.old) (length tape.old) (length scratch.old)) (without_token result) (state B.orders B.capacity session.new) tape.old session.old.day.used tape.new }
     ensures board { board.new ≡ board_after board.old result }
-    ensures scratch { scratch.new ≡ scratch_after (state orders capacity session.old) scratch.old }
-    ensures token { Told (R.PriceRule.rule session.old.rule.below) (state orders capacity session.old) (state orders capacity session.new) result }
-    ensures sound { Sound (state orders capacity session.old) → Sound (state orders capacity session.new) }
+    ensures scratch { scratch.new ≡ scratch_after (state B.orders B.capacity session.old) scratch.old }
+    ensures token { Told (R.rule session.old.rule.below) (state B.orders B.capacity session.old) (state B.orders B.capacity session.new) result }
+    ensures sound { Sound (state B.orders B.capacity session.old) → Sound (state B.orders B.capacity session.new) }
     ensures rule { session.new.rule ≡ session.old.rule }
 {
     match session.call(tape, scratch)? {
@@ -43,11 +43,11 @@ pub fn strike_shown<B: Book, R: PriceRule>(
     tape: &mut [TapeRecord],
 ) -> Result<Quote, Refusal>
     requires live { 0 < called.old.quantity }
-    ensures came { Came (strike_outcome (state orders capacity session.old) (length tape.old) called.old.price called.old.quantity) (quantity_of result) (state orders capacity session.new) tape.old session.old.day.used tape.new }
+    ensures came { Came (strike_outcome (state B.orders B.capacity session.old) (length tape.old) called.old.price called.old.quantity) (quantity_of result) (state B.orders B.capacity session.new) tape.old session.old.day.used tape.new }
     ensures price { StruckAt called.old.price result }
     ensures token { Spent called.old called.new (quantity_of result) }
     ensures kept { called.new.price ≡ called.old.price }
-    ensures sound { Sound (state orders capacity session.old) → Sound (state orders capacity session.new) }
+    ensures sound { Sound (state B.orders B.capacity session.old) → Sound (state B.orders B.capacity session.new) }
     ensures rule { session.new.rule ≡ session.old.rule }
 {
     let price = called.price();

@@ -25,10 +25,10 @@ fn trade<B: Book>(
     tape: &mut [TapeRecord],
     at: usize,
 )
-    requires { 0 < fills → at + length (meeting_of (plain_settings settings.now) reference entry.side entry.price entry.quantity (orders book.old)).fills ≤ length tape.old }
-    ensures orders { orders book.new ≡ after_fills (some_fills fills (meeting_of (plain_settings settings.now) reference entry.side entry.price entry.quantity (orders book.old)).fills) (orders book.old) }
-    ensures capacity { capacity book.new ≡ capacity book.old }
-    ensures tape { tape.new ≡ written tape.old at (map (trade_of entry.side number) (some_fills fills (meeting_of (plain_settings settings.now) reference entry.side entry.price entry.quantity (orders book.old)).fills)) }
+    requires { 0 < fills → at + length (meeting_of (plain_settings settings.now) reference entry.side entry.price entry.quantity (B.orders book.old)).fills ≤ length tape.old }
+    ensures orders { B.orders book.new ≡ after_fills (some_fills fills (meeting_of (plain_settings settings.now) reference entry.side entry.price entry.quantity (B.orders book.old)).fills) (B.orders book.old) }
+    ensures capacity { B.capacity book.new ≡ B.capacity book.old }
+    ensures tape { tape.new ≡ written tape.old at (map (trade_of entry.side number) (some_fills fills (meeting_of (plain_settings settings.now) reference entry.side entry.price entry.quantity (B.orders book.old)).fills)) }
 {
     if fills > 0 {
         carry_out(
@@ -47,8 +47,8 @@ fn trade<B: Book>(
 
 // Puts what remains of an order into the book at a price.
 fn stand<B: Book>(book: &mut B, number: u64, entry: Entry, price: OrderPrice, remaining: u64)
-    ensures orders { orders book.new ≡ offered (capacity book.old) (orders book.old) (order_of number entry.member entry.side price remaining) }
-    ensures capacity { capacity book.new ≡ capacity book.old }
+    ensures orders { B.orders book.new ≡ offered (B.capacity book.old) (B.orders book.old) (order_of number entry.member entry.side price remaining) }
+    ensures capacity { B.capacity book.new ≡ B.capacity book.old }
 {
     if let Some(order) = StandingOrder::new(number, entry.member, entry.side, price, remaining) {
         book.add(order);
@@ -66,8 +66,8 @@ fn settle<B: Book>(
     at: usize,
 )
     requires { 0 < records_by fate → at < length tape.old }
-    ensures orders { orders book.new ≡ settled_orders (capacity book.old) (orders book.old) number entry remaining fate }
-    ensures capacity { capacity book.new ≡ capacity book.old }
+    ensures orders { B.orders book.new ≡ settled_orders (B.capacity book.old) (B.orders book.old) number entry remaining fate }
+    ensures capacity { B.capacity book.new ≡ B.capacity book.old }
     ensures tape { tape.new ≡ written tape.old at (own_record number remaining fate) }
 {
     match fate {
@@ -93,11 +93,11 @@ pub(crate) fn carry<B: Book>(
     tape: &mut [TapeRecord],
 )
     requires number { day.now.last < 999999999 }
-    requires fills { 0 < course.fills → course.fills ≡ length (meeting_of (plain_settings settings.now) day.now.reference entry.side entry.price entry.quantity (orders book.old)).fills }
+    requires fills { 0 < course.fills → course.fills ≡ length (meeting_of (plain_settings settings.now) day.now.reference entry.side entry.price entry.quantity (B.orders book.old)).fills }
     requires places { records_of course ≤ free_places (length tape.old) day.now.used }
-    ensures orders { orders book.new ≡ settled_orders (capacity book.old) (after_fills (some_fills course.fills (meeting_of (plain_settings settings.now) day.now.reference entry.side entry.price entry.quantity (orders book.old)).fills) (orders book.old)) (day.now.last + 1) entry course.remaining course.fate }
-    ensures capacity { capacity book.new ≡ capacity book.old }
-    ensures tape { tape.new ≡ written tape.old day.now.used (map (trade_of entry.side (day.now.last + 1)) (some_fills course.fills (meeting_of (plain_settings settings.now) day.now.reference entry.side entry.price entry.quantity (orders book.old)).fills) ++ own_record (day.now.last + 1) course.remaining course.fate) }
+    ensures orders { B.orders book.new ≡ settled_orders (B.capacity book.old) (after_fills (some_fills course.fills (meeting_of (plain_settings settings.now) day.now.reference entry.side entry.price entry.quantity (B.orders book.old)).fills) (B.orders book.old)) (day.now.last + 1) entry course.remaining course.fate }
+    ensures capacity { B.capacity book.new ≡ B.capacity book.old }
+    ensures tape { tape.new ≡ written tape.old day.now.used (map (trade_of entry.side (day.now.last + 1)) (some_fills course.fills (meeting_of (plain_settings settings.now) day.now.reference entry.side entry.price entry.quantity (B.orders book.old)).fills) ++ own_record (day.now.last + 1) course.remaining course.fate) }
 {
     let number = day.last + 1;
     trade(

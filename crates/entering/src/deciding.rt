@@ -20,7 +20,7 @@ pub(crate) fn decide<B: Book>(
     tape: usize,
 ) -> Result<Course, Refusal>
     requires { takes_orders day.now.phase ≡ true }
-    ensures { Decided (view (plain settings.now) day.now (orders book.now) (capacity book.now)) tape entry result }
+    ensures { Decided (view (plain settings.now) day.now (B.orders book.now) (B.capacity book.now)) tape entry result }
 {
     if let Some(why) = own_refusal(settings, day, entry) {
         return Err(why);

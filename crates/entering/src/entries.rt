@@ -37,11 +37,11 @@ pub fn enter<B: Book>(
     tape: &mut [TapeRecord],
 ) -> Result<u64, Refusal>
     requires { takes_orders day.old.phase ≡ true }
-    ensures came { Standing 0 (orders book.old) day.old.last → 1 ≤ day.old.reference → Came (entered (view (plain settings.now) day.old (orders book.old) (capacity book.old)) (length tape.old) entry) result (view (plain settings.now) day.new (orders book.new) (capacity book.new)) tape.old day.old.used tape.new }
+    ensures came { Standing 0 (B.orders book.old) day.old.last → 1 ≤ day.old.reference → Came (entered (view (plain settings.now) day.old (B.orders book.old) (B.capacity book.old)) (length tape.old) entry) result (view (plain settings.now) day.new (B.orders book.new) (B.capacity book.new)) tape.old day.old.used tape.new }
     ensures reference { day.new.reference ≡ day.old.reference }
     ensures phase { takes_orders day.new.phase ≡ true }
-    ensures room { capacity book.new ≡ capacity book.old }
-    ensures refused { OnErr result ((orders book.new ≡ orders book.old) × (day.new ≡ day.old) × (tape.new ≡ tape.old)) }
+    ensures room { B.capacity book.new ≡ B.capacity book.old }
+    ensures refused { OnErr result ((B.orders book.new ≡ B.orders book.old) × (day.new ≡ day.old) × (tape.new ≡ tape.old)) }
 {
     let course = decide(book, settings, day, entry, tape.len())?;
     carry(book, settings, day, entry, course, tape);

@@ -126,7 +126,7 @@ pub(crate) fn course_of<B: Book>(
     day: &DayState,
     entry: Entry,
 ) -> Course
-    ensures { Runs (view (plain settings.now) day.now (orders book.now) (capacity book.now)) entry result }
+    ensures { Runs (view (plain settings.now) day.now (B.orders book.now) (B.capacity book.now)) entry result }
 {
     if !is_trading(day.phase) {
         return stands_whole(day.phase, entry);

@@ -126,7 +126,7 @@ fn under_rule<B: Book + Drop>(
     standing: &mut [RawOrder],
     end: &mut RawEnd,
 ) -> u64
-    requires { orders book ≡ [] }
+    requires { B.orders book ≡ [] }
     ensures { result ≡ refused (given making.tick making.indicative making.absolute making.static_band) making.last (vec_len memory.old.calls) (vec_len memory.old.answers) }
 {
     if rule == 0 {
@@ -151,7 +151,7 @@ fn run_day<B: Book + Drop, R: PriceRule + Drop>(
     standing: &mut [RawOrder],
     end: &mut RawEnd,
 ) -> u64
-    requires { orders book ≡ [] }
+    requires { B.orders book ≡ [] }
     ensures { result ≡ refused (given making.tick making.indicative making.absolute making.static_band) making.last (vec_len memory.old.calls) (vec_len memory.old.answers) }
 {
     match Session::new(

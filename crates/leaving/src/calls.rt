@@ -21,7 +21,7 @@ pub fn withdraw<B: Book>(
     tape: &mut [TapeRecord],
 ) -> Result<u64, Refusal>
     requires { takes_withdrawals day.old.phase ≡ true }
-    ensures came { (g : Settings) → Came (withdrawal_of (view g day.old (orders book.old) (capacity book.old)) (length tape.old) member number) result (view g day.new (orders book.new) (capacity book.new)) tape.old day.old.used tape.new }
+    ensures came { (g : Settings) → Came (withdrawal_of (view g day.old (B.orders book.old) (B.capacity book.old)) (length tape.old) member number) result (view g day.new (B.orders book.new) (B.capacity book.new)) tape.old day.old.used tape.new }
 {
     if !stands_for(member, book.find(number)) {
         return Err(Refusal::UnknownOrder);
@@ -51,7 +51,7 @@ pub fn close<B: Book>(
     tape: &mut [TapeRecord],
 ) -> Result<u64, Refusal>
     requires { takes_close day.old.phase ≡ true }
-    ensures came { (g : Settings) → Came (CloseOf (view g day.old (orders book.old) (capacity book.old)) (length tape.old)) result (view g day.new (orders book.new) (capacity book.new)) tape.old day.old.used tape.new }
+    ensures came { (g : Settings) → Came (CloseOf (view g day.old (B.orders book.old) (B.capacity book.old)) (length tape.old)) result (view g day.new (B.orders book.new) (B.capacity book.new)) tape.old day.old.used tape.new }
 {
     if !all_fit(book, day, tape.len()) {
         return Err(Refusal::TapeFull);
@@ -64,9 +64,9 @@ pub fn close<B: Book>(
 
 // Whether a tape has a free place for the record of every order.
 fn all_fit<B: Book>(book: &B, day: &DayState, tape: usize) -> bool
-    ensures value { result ≡ nat_le (length (map (withdrawal AtClose) (orders book.now))) (min tape max_places - day.now.used) }
-    ensures room { result ≡ true → length (orders book.now) ≤ tape - day.now.used }
-    ensures records { length (map (withdrawal AtClose) (orders book.now)) ≡ length (orders book.now) }
+    ensures value { result ≡ nat_le (length (map (withdrawal AtClose) (B.orders book.now))) (min tape max_places - day.now.used) }
+    ensures room { result ≡ true → length (B.orders book.now) ≤ tape - day.now.used }
+    ensures records { length (map (withdrawal AtClose) (B.orders book.now)) ≡ length (B.orders book.now) }
 {
     let (count, _) = book.count();
     count <= day.free_places(tape)

@@ -66,8 +66,8 @@ fn fill<B: Book>(
 ) -> Progress
     requires { progress.at < length tape.old }
     ensures progress { (result.remaining ≡ progress.remaining - min progress.remaining (plain o).left) × (result.from ≡ place) × (result.at ≡ progress.at + 1) }
-    ensures orders { orders book.new ≡ (if can_take (min progress.remaining (plain o).left) (find (plain o).number (orders book.old)) then lower (plain o).number (min progress.remaining (plain o).left) (orders book.old) else orders book.old) }
-    ensures capacity { capacity book.new ≡ capacity book.old }
+    ensures orders { B.orders book.new ≡ (if can_take (min progress.remaining (plain o).left) (find (plain o).number (B.orders book.old)) then lower (plain o).number (min progress.remaining (plain o).left) (B.orders book.old) else B.orders book.old) }
+    ensures capacity { B.capacity book.new ≡ B.capacity book.old }
     ensures tape { tape.new ≡ slice_set tape.old progress.at (trade_of order.side order.number (fill_of progress.remaining (plain o))) }
 {
     let quantity = progress.remaining.min(o.left);
@@ -92,10 +92,10 @@ pub fn carry_out<B: Book>(
     tape: &mut [TapeRecord],
     at: usize,
 )
-    requires { length (meeting_of (plain_settings settings.now) reference side price quantity (orders book.old)).fills ≤ length tape.old - at }
-    ensures orders { orders book.new ≡ after_fills (meeting_of (plain_settings settings.now) reference side price quantity (orders book.old)).fills (orders book.old) }
-    ensures capacity { capacity book.new ≡ capacity book.old }
-    ensures tape { tape.new ≡ written tape.old at (map (trade_of side number) (meeting_of (plain_settings settings.now) reference side price quantity (orders book.old)).fills) }
+    requires { length (meeting_of (plain_settings settings.now) reference side price quantity (B.orders book.old)).fills ≤ length tape.old - at }
+    ensures orders { B.orders book.new ≡ after_fills (meeting_of (plain_settings settings.now) reference side price quantity (B.orders book.old)).fills (B.orders book.old) }
+    ensures capacity { B.capacity book.new ≡ B.capacity book.old }
+    ensures tape { tape.new ≡ written tape.old at (map (trade_of side number) (meeting_of (plain_settings settings.now) reference side price quantity (B.orders book.old)).fills) }
 {
     let order = Incoming {
         number,

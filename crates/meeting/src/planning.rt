@@ -66,7 +66,7 @@ pub fn plan<B: Book>(
     price: OrderPrice,
     quantity: u64,
 ) -> Plan
-    ensures { Planned (orders book.now) price (meeting_of (plain_settings settings.now) reference side price quantity (orders book.now)) result }
+    ensures { Planned (B.orders book.now) price (meeting_of (plain_settings settings.now) reference side price quantity (B.orders book.now)) result }
 {
     let other = side.opposite();
     let mut walk = Walk {

@@ -20,9 +20,9 @@ pub fn opening_price<R: PriceRule>(
     orders: &[Order],
     scratch: &mut [Point],
 ) -> Result<Option<Point>, Fault>
-    ensures value { MatchResult result (λ x. (x ≡ call_price (R.PriceRule.rule rule.now.below) (plain settings.now) orders.now) × (curve_fault (plain settings.now) orders.now (length scratch.old) ≡ 0)) (λ e. curve_fault (plain settings.now) orders.now (length scratch.old) ≡ fault_code e) }
+    ensures value { MatchResult result (λ x. (x ≡ call_price (R.rule rule.now.below) (plain settings.now) orders.now) × (curve_fault (plain settings.now) orders.now (length scratch.old) ≡ 0)) (λ e. curve_fault (plain settings.now) orders.now (length scratch.old) ≡ fault_code e) }
     ensures scratch { MatchResult result (λ _. scratch.new ≡ curve (plain settings.now) orders.now ++ drop (count (plain settings.now)) scratch.old) (λ _. scratch.new ≡ scratch.old) }
-    ensures first { IfOk result (Found (R.PriceRule.rule rule.now.below) (plain settings.now) orders.now) }
+    ensures first { IfOk result (Found (R.rule rule.now.below) (plain settings.now) orders.now) }
 {
     let count = write_curve(settings, orders, scratch)?;
     let called = called_price(rule, &scratch[0..count], settings.indicative);

@@ -47,7 +47,7 @@ impl BestEnds {
 
 // The ends after one more point.
 fn ends_with<R: PriceRule>(rule: &R, earlier: Option<BestEnds>, p: Point) -> BestEnds
-    ensures { result ≡ ends_with (R.PriceRule.rule rule.now) earlier p }
+    ensures { result ≡ ends_with (R.rule rule.now) earlier p }
 {
     let Some(found) = earlier else {
         return BestEnds::alone(p);
@@ -67,8 +67,8 @@ pub fn best_ends<R: PriceRule>(
     earlier: Option<BestEnds>,
     points: &[Point],
 ) -> Option<BestEnds>
-    ensures value { result ≡ ends_onward (R.PriceRule.rule rule.now) earlier points.now }
-    ensures joined { (xs : List Point) → earlier ≡ ends (R.PriceRule.rule rule.now) xs → result ≡ ends (R.PriceRule.rule rule.now) (xs ++ points.now) }
+    ensures value { result ≡ ends_onward (R.rule rule.now) earlier points.now }
+    ensures joined { (xs : List Point) → earlier ≡ ends (R.rule rule.now) xs → result ≡ ends (R.rule rule.now) (xs ++ points.now) }
 {
     let mut found = earlier;
     for p in points {
@@ -104,8 +104,8 @@ pub fn nearest_level<R: PriceRule>(
     earlier: Option<Point>,
     points: &[Point],
 ) -> Option<Point>
-    ensures value { result ≡ nearest_onward target earlier (level_with (R.PriceRule.rule rule.now) best points.now) }
-    ensures joined { (xs : List Point) → earlier ≡ nearest_among target (level_with (R.PriceRule.rule rule.now) best xs) → result ≡ nearest_among target (level_with (R.PriceRule.rule rule.now) best (xs ++ points.now)) }
+    ensures value { result ≡ nearest_onward target earlier (level_with (R.rule rule.now) best points.now) }
+    ensures joined { (xs : List Point) → earlier ≡ nearest_among target (level_with (R.rule rule.now) best xs) → result ≡ nearest_among target (level_with (R.rule rule.now) best (xs ++ points.now)) }
 {
     let mut nearest = earlier;
     for p in points {
@@ -118,8 +118,8 @@ pub fn nearest_level<R: PriceRule>(
 
 // The called price with its point: of the best points, the nearest to the rule's target.
 pub fn called_price<R: PriceRule>(rule: &R, points: &[Point], indicative: u32) -> Option<Point>
-    ensures value { result ≡ called (R.PriceRule.rule rule.now) indicative points.now }
-    ensures meaning { MatchOption result (points.now ≡ []) (IsCalled (R.PriceRule.rule rule.now) indicative points.now) }
+    ensures value { result ≡ called (R.rule rule.now) indicative points.now }
+    ensures meaning { MatchOption result (points.now ≡ []) (IsCalled (R.rule rule.now) indicative points.now) }
 {
     let BestEnds { lowest, highest } = best_ends(rule, None, points)?;
     let target = rule.target(lowest, highest, indicative);

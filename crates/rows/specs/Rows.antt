@@ -1,7 +1,6 @@
 -- What the rows of a table keep.
 use Rattle.std.specs.Prelude.{ℕ, List, [], ◌∷◌}
 use Rattle.std.proofs.Math.Bridge.{le_prop}
-use denote.Struct.Props.{three_prop}
 use Rattle.std.specs.List.{AllByRecursion as All}
 use Rattle.model.specs.declared.types.Side.TheVariants.{Buy}
 use Rattle.model.specs.declared.types.OrderPrice.TheVariants.{Market}
@@ -20,8 +19,8 @@ pub record Held (os : List Order) : Type 0 where
   pub bounded : All Bounded os
 
 standing_prop : (lo hi : ℕ) (os : List Order) → IsProp (Standing lo os hi)
-standing_prop lo hi [] = le_prop
-standing_prop lo hi (o ∷ os) = three_prop le_prop le_prop (standing_prop o.number hi os)
+standing_prop lo hi [] p q = λ i. le_prop p q i
+standing_prop lo hi (o ∷ os) p q = λ i. (le_prop p.0 q.0 i, le_prop p.1 q.1 i, standing_prop o.number hi os p.2 q.2 i)
 
 bounded_prop : (o : Order) → IsProp (Bounded o)
 bounded_prop o p q = λ i. record {

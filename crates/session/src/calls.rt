@@ -22,10 +22,10 @@ impl<B: Book, R: PriceRule> Session<B, R> {
         tape: &mut [TapeRecord],
         scratch: &mut [Point],
     ) -> Result<Option<CalledPrice>, Refusal>
-        ensures came { Came (call_outcome (R.PriceRule.rule self.old.rule.below) (state orders capacity self.old) (length tape.old) (length scratch.old)) (without_token result) (state orders capacity self.new) tape.old self.old.day.used tape.new }
-        ensures scratch { scratch.new ≡ scratch_after (state orders capacity self.old) scratch.old }
-        ensures token { Told (R.PriceRule.rule self.old.rule.below) (state orders capacity self.old) (state orders capacity self.new) result }
-        ensures sound { Sound (state orders capacity self.old) → Sound (state orders capacity self.new) }
+        ensures came { Came (call_outcome (R.rule self.old.rule.below) (state B.orders B.capacity self.old) (length tape.old) (length scratch.old)) (without_token result) (state B.orders B.capacity self.new) tape.old self.old.day.used tape.new }
+        ensures scratch { scratch.new ≡ scratch_after (state B.orders B.capacity self.old) scratch.old }
+        ensures token { Told (R.rule self.old.rule.below) (state B.orders B.capacity self.old) (state B.orders B.capacity self.new) result }
+        ensures sound { Sound (state B.orders B.capacity self.old) → Sound (state B.orders B.capacity self.new) }
         ensures rule { self.new.rule ≡ self.old.rule }
     {
         match self.day.phase {
@@ -47,9 +47,9 @@ impl<B: Book, R: PriceRule> Session<B, R> {
         scratch: &mut [Point],
     ) -> Result<Option<CalledPrice>, Refusal>
         requires { self.old.day.phase ≡ Random }
-        ensures came { Came (call_outcome (R.PriceRule.rule self.old.rule.below) (state orders capacity self.old) (length tape.old) (length scratch.old)) (without_token result) (state orders capacity self.new) tape.old self.old.day.used tape.new }
-        ensures scratch { scratch.new ≡ scratch_after (state orders capacity self.old) scratch.old }
-        ensures token { Told (R.PriceRule.rule self.old.rule.below) (state orders capacity self.old) (state orders capacity self.new) result }
+        ensures came { Came (call_outcome (R.rule self.old.rule.below) (state B.orders B.capacity self.old) (length tape.old) (length scratch.old)) (without_token result) (state B.orders B.capacity self.new) tape.old self.old.day.used tape.new }
+        ensures scratch { scratch.new ≡ scratch_after (state B.orders B.capacity self.old) scratch.old }
+        ensures token { Told (R.rule self.old.rule.below) (state B.orders B.capacity self.old) (state B.orders B.capacity self.new) result }
         ensures rule { self.new.rule ≡ self.old.rule }
     {
         let found = call(
@@ -70,11 +70,11 @@ impl<B: Book, R: PriceRule> Session<B, R> {
         tape: &mut [TapeRecord],
     ) -> Result<u64, Refusal>
         requires live { 0 < called.old.quantity }
-        ensures came { Came (strike_outcome (state orders capacity self.old) (length tape.old) called.old.price called.old.quantity) result (state orders capacity self.new) tape.old self.old.day.used tape.new }
+        ensures came { Came (strike_outcome (state B.orders B.capacity self.old) (length tape.old) called.old.price called.old.quantity) result (state B.orders B.capacity self.new) tape.old self.old.day.used tape.new }
         ensures token { Spent called.old called.new result }
         ensures price { called.new.price ≡ called.old.price }
-        ensures kept { OnErr result (state orders capacity self.new ≡ state orders capacity self.old) }
-        ensures sound { Sound (state orders capacity self.old) → Sound (state orders capacity self.new) }
+        ensures kept { OnErr result (state B.orders B.capacity self.new ≡ state B.orders B.capacity self.old) }
+        ensures sound { Sound (state B.orders B.capacity self.old) → Sound (state B.orders B.capacity self.new) }
         ensures rule { self.new.rule ≡ self.old.rule }
     {
         check_called(self.day.phase, called)?;
@@ -88,7 +88,7 @@ impl<B: Book, R: PriceRule> Session<B, R> {
         tape: &mut [TapeRecord],
     ) -> Result<u64, Refusal>
         requires { self.old.day.phase ≡ Called called.old.price called.old.quantity }
-        ensures came { Came (strike_outcome (state orders capacity self.old) (length tape.old) called.old.price called.old.quantity) result (state orders capacity self.new) tape.old self.old.day.used tape.new }
+        ensures came { Came (strike_outcome (state B.orders B.capacity self.old) (length tape.old) called.old.price called.old.quantity) result (state B.orders B.capacity self.new) tape.old self.old.day.used tape.new }
         ensures token { Spent called.old called.new result }
         ensures price { called.new.price ≡ called.old.price }
         ensures rule { self.new.rule ≡ self.old.rule }
@@ -108,13 +108,13 @@ impl<B: Book, R: PriceRule> Session<B, R> {
     // Puts the called price back: the random period goes on without it. The price that waits for its strike is never refused.
     pub fn put_back(&mut self, called: &mut CalledPrice) -> Result<u64, Refusal>
         requires live { 0 < called.old.quantity }
-        ensures refusal { refusal_of result ≡ (put_back_outcome (state orders capacity self.old) called.old.price called.old.quantity).refusal }
+        ensures refusal { refusal_of result ≡ (put_back_outcome (state B.orders B.capacity self.old) called.old.price called.old.quantity).refusal }
         ensures answer { answer_of result ≡ 0 }
-        ensures state { state orders capacity self.new ≡ (put_back_outcome (state orders capacity self.old) called.old.price called.old.quantity).state }
+        ensures state { state B.orders B.capacity self.new ≡ (put_back_outcome (state B.orders B.capacity self.old) called.old.price called.old.quantity).state }
         ensures token { Spent called.old called.new result }
         ensures price { called.new.price ≡ called.old.price }
         ensures own { self.old.day.phase ≡ Called called.old.price called.old.quantity → called.new.quantity ≡ 0 }
-        ensures sound { Sound (state orders capacity self.old) → Sound (state orders capacity self.new) }
+        ensures sound { Sound (state B.orders B.capacity self.old) → Sound (state B.orders B.capacity self.new) }
         ensures rule { self.new.rule ≡ self.old.rule }
     {
         check_called(self.day.phase, called)?;

@@ -13,8 +13,8 @@ use pricing::PriceRule;
 impl<B: Book, R: PriceRule> Session<B, R> {
     // Enters an order, and answers its number.
     pub fn enter(&mut self, entry: Entry, tape: &mut [TapeRecord]) -> Result<u64, Refusal>
-        ensures came { Sound (state orders capacity self.old) → Came (enter_of (state orders capacity self.old) (length tape.old) entry) result (state orders capacity self.new) tape.old self.old.day.used tape.new }
-        ensures sound { Sound (state orders capacity self.old) → Sound (state orders capacity self.new) }
+        ensures came { Sound (state B.orders B.capacity self.old) → Came (enter_of (state B.orders B.capacity self.old) (length tape.old) entry) result (state B.orders B.capacity self.new) tape.old self.old.day.used tape.new }
+        ensures sound { Sound (state B.orders B.capacity self.old) → Sound (state B.orders B.capacity self.new) }
         ensures rule { self.new.rule ≡ self.old.rule }
     {
         let mut unused: [Point; 0] = [];
@@ -28,8 +28,8 @@ impl<B: Book, R: PriceRule> Session<B, R> {
         number: u64,
         tape: &mut [TapeRecord],
     ) -> Result<u64, Refusal>
-        ensures came { Came (withdraw_of (state orders capacity self.old) (length tape.old) member number) result (state orders capacity self.new) tape.old self.old.day.used tape.new }
-        ensures sound { Sound (state orders capacity self.old) → Sound (state orders capacity self.new) }
+        ensures came { Came (withdraw_of (state B.orders B.capacity self.old) (length tape.old) member number) result (state B.orders B.capacity self.new) tape.old self.old.day.used tape.new }
+        ensures sound { Sound (state B.orders B.capacity self.old) → Sound (state B.orders B.capacity self.new) }
         ensures rule { self.new.rule ≡ self.old.rule }
     {
         let mut unused: [Point; 0] = [];
@@ -38,10 +38,10 @@ impl<B: Book, R: PriceRule> Session<B, R> {
 
     // Begins the random period.
     pub fn begin_random(&mut self) -> Result<u64, Refusal>
-        ensures refusal { refusal_of result ≡ (begin_random_of (state orders capacity self.old)).refusal }
+        ensures refusal { refusal_of result ≡ (begin_random_of (state B.orders B.capacity self.old)).refusal }
         ensures answer { answer_of result ≡ 0 }
-        ensures state { state orders capacity self.new ≡ (begin_random_of (state orders capacity self.old)).state }
-        ensures sound { Sound (state orders capacity self.old) → Sound (state orders capacity self.new) }
+        ensures state { state B.orders B.capacity self.new ≡ (begin_random_of (state B.orders B.capacity self.old)).state }
+        ensures sound { Sound (state B.orders B.capacity self.old) → Sound (state B.orders B.capacity self.new) }
         ensures rule { self.new.rule ≡ self.old.rule }
     {
         let mut unwritten: [TapeRecord; 0] = [];
@@ -51,8 +51,8 @@ impl<B: Book, R: PriceRule> Session<B, R> {
 
     // Withdraws every order that stands, ends the day, and answers how many they were.
     pub fn close(&mut self, tape: &mut [TapeRecord]) -> Result<u64, Refusal>
-        ensures came { Came (CloseOf (state orders capacity self.old) (length tape.old)) result (state orders capacity self.new) tape.old self.old.day.used tape.new }
-        ensures sound { Sound (state orders capacity self.old) → Sound (state orders capacity self.new) }
+        ensures came { Came (CloseOf (state B.orders B.capacity self.old) (length tape.old)) result (state B.orders B.capacity self.new) tape.old self.old.day.used tape.new }
+        ensures sound { Sound (state B.orders B.capacity self.old) → Sound (state B.orders B.capacity self.new) }
         ensures rule { self.new.rule ≡ self.old.rule }
     {
         let mut unused: [Point; 0] = [];

@@ -22,9 +22,9 @@ pub fn run<B: Book, R: PriceRule>(
     scratch: &mut [Point],
 ) -> Result<usize, Refusal>
     ensures refusal { MatchResult result (λ n. (list_refusal (length answers.old) calls.now ≡ no_refusal) × (n ≡ length calls.now)) (λ e. list_refusal (length answers.old) calls.now ≡ code e) }
-    ensures ran { Sound (state orders capacity session.old) → Ran (R.PriceRule.rule session.old.rule.below) (length tape.old) (length scratch.old) (state orders capacity session.old) (state orders capacity session.new) (calls_run (length answers.old) calls.now) answers.old answers.new tape.old tape.new scratch.old scratch.new }
-    ensures laws { New (state orders capacity session.old) → Kept (R.PriceRule.rule session.old.rule.below) (length tape.old) (state orders capacity session.old) (calls_run (length answers.old) calls.now) (outcomes (R.PriceRule.rule session.old.rule.below) (length tape.old) (length scratch.old) (state orders capacity session.old) (calls_run (length answers.old) calls.now)) }
-    ensures sound { Sound (state orders capacity session.old) → Sound (state orders capacity session.new) }
+    ensures ran { Sound (state B.orders B.capacity session.old) → Ran (R.rule session.old.rule.below) (length tape.old) (length scratch.old) (state B.orders B.capacity session.old) (state B.orders B.capacity session.new) (calls_run (length answers.old) calls.now) answers.old answers.new tape.old tape.new scratch.old scratch.new }
+    ensures laws { New (state B.orders B.capacity session.old) → Kept (R.rule session.old.rule.below) (length tape.old) (state B.orders B.capacity session.old) (calls_run (length answers.old) calls.now) (outcomes (R.rule session.old.rule.below) (length tape.old) (length scratch.old) (state B.orders B.capacity session.old) (calls_run (length answers.old) calls.now)) }
+    ensures sound { Sound (state B.orders B.capacity session.old) → Sound (state B.orders B.capacity session.new) }
     ensures rule { session.new.rule ≡ session.old.rule }
 {
     if answers.len() < calls.len() {

@@ -21,7 +21,7 @@ impl<B: Book, R: PriceRule> Session<B, R> {
         book: B,
         rule: R,
     ) -> Result<Session<B, R>, (Refusal, B, R)>
-        ensures { MatchResult result (λ s. (make_refusal (given tick indicative absolute static_band) last_number (orders book) ≡ no_refusal) × (state orders capacity s ≡ made (given tick indicative absolute static_band) last_number (orders book) (capacity book)) × (s.book ≡ book) × (s.rule.below ≡ rule) × New (state orders capacity s) × Sound (state orders capacity s)) (λ e. (code e.0 ≡ make_refusal (given tick indicative absolute static_band) last_number (orders book)) × (e.1 ≡ book) × (e.2 ≡ rule)) }
+        ensures { MatchResult result (λ s. (make_refusal (given tick indicative absolute static_band) last_number (B.orders book) ≡ no_refusal) × (state B.orders B.capacity s ≡ made (given tick indicative absolute static_band) last_number (B.orders book) (B.capacity book)) × (s.book ≡ book) × (s.rule.below ≡ rule) × New (state B.orders B.capacity s) × Sound (state B.orders B.capacity s)) (λ e. (code e.0 ≡ make_refusal (given tick indicative absolute static_band) last_number (B.orders book)) × (e.1 ≡ book) × (e.2 ≡ rule)) }
     {
         let settings = match Settings::new(tick, indicative, absolute, static_band, last_number) {
             Ok(settings) => settings,
@@ -46,7 +46,7 @@ impl<B: Book, R: PriceRule> Session<B, R> {
 
 // Whether no order stands.
 fn is_empty<B: Book>(book: &B) -> bool
-    ensures { result ≡ is_empty (orders book.now) }
+    ensures { result ≡ is_empty (B.orders book.now) }
 {
     let (count, _) = book.count();
     count == 0

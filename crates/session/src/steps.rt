@@ -20,8 +20,8 @@ pub(crate) fn step<B: Book, R: PriceRule>(
     tape: &mut [TapeRecord],
     scratch: &mut [Point],
 ) -> Result<u64, Refusal>
-    ensures came { RestsOn call (state orders capacity session.old) → Came (outcome (R.PriceRule.rule session.old.rule.below) (length tape.old) (length scratch.old) (state orders capacity session.old) call) result (state orders capacity session.new) tape.old session.old.day.used tape.new }
-    ensures scratch { scratch.new ≡ scratch_step (state orders capacity session.old) call scratch.old }
+    ensures came { RestsOn call (state B.orders B.capacity session.old) → Came (outcome (R.rule session.old.rule.below) (length tape.old) (length scratch.old) (state B.orders B.capacity session.old) call) result (state B.orders B.capacity session.new) tape.old session.old.day.used tape.new }
+    ensures scratch { scratch.new ≡ scratch_step (state B.orders B.capacity session.old) call scratch.old }
     ensures rule { session.new.rule ≡ session.old.rule }
 {
     match (session.day.phase, call) {
@@ -59,7 +59,7 @@ fn entered<B: Book, R: PriceRule>(
     tape: &mut [TapeRecord],
 ) -> Result<u64, Refusal>
     requires { takes_orders session.old.day.phase ≡ true }
-    ensures came { Sound (state orders capacity session.old) → Came (enter_of (state orders capacity session.old) (length tape.old) entry) result (state orders capacity session.new) tape.old session.old.day.used tape.new }
+    ensures came { Sound (state B.orders B.capacity session.old) → Came (enter_of (state B.orders B.capacity session.old) (length tape.old) entry) result (state B.orders B.capacity session.new) tape.old session.old.day.used tape.new }
     ensures rule { session.new.rule ≡ session.old.rule }
 {
     enter(
@@ -79,7 +79,7 @@ fn withdrawn<B: Book, R: PriceRule>(
     tape: &mut [TapeRecord],
 ) -> Result<u64, Refusal>
     requires { takes_withdrawals session.old.day.phase ≡ true }
-    ensures came { Came (withdraw_of (state orders capacity session.old) (length tape.old) member number) result (state orders capacity session.new) tape.old session.old.day.used tape.new }
+    ensures came { Came (withdraw_of (state B.orders B.capacity session.old) (length tape.old) member number) result (state B.orders B.capacity session.new) tape.old session.old.day.used tape.new }
     ensures rule { session.new.rule ≡ session.old.rule }
 {
     withdraw(&mut session.book, &mut session.day, member, number, tape)
@@ -91,7 +91,7 @@ fn closed<B: Book, R: PriceRule>(
     tape: &mut [TapeRecord],
 ) -> Result<u64, Refusal>
     requires { takes_close session.old.day.phase ≡ true }
-    ensures came { Came (CloseOf (state orders capacity session.old) (length tape.old)) result (state orders capacity session.new) tape.old session.old.day.used tape.new }
+    ensures came { Came (CloseOf (state B.orders B.capacity session.old) (length tape.old)) result (state B.orders B.capacity session.new) tape.old session.old.day.used tape.new }
     ensures rule { session.new.rule ≡ session.old.rule }
 {
     close(&mut session.book, &mut session.day, tape)
@@ -104,8 +104,8 @@ fn auctioned<B: Book, R: PriceRule>(
     scratch: &mut [Point],
 ) -> Result<u64, Refusal>
     requires { is_random session.old.day.phase ≡ true }
-    ensures came { Came (auction_of (R.PriceRule.rule session.old.rule.below) (state orders capacity session.old) (length tape.old) (length scratch.old)) result (state orders capacity session.new) tape.old session.old.day.used tape.new }
-    ensures scratch { scratch.new ≡ scratch_after (state orders capacity session.old) scratch.old }
+    ensures came { Came (auction_of (R.rule session.old.rule.below) (state B.orders B.capacity session.old) (length tape.old) (length scratch.old)) result (state B.orders B.capacity session.new) tape.old session.old.day.used tape.new }
+    ensures scratch { scratch.new ≡ scratch_after (state B.orders B.capacity session.old) scratch.old }
     ensures rule { session.new.rule ≡ session.old.rule }
 {
     match session.call(tape, scratch)? {

@@ -44,9 +44,9 @@ pub(crate) fn next_meeting<B: Book>(
     buy_place: usize,
     sell_place: usize,
 ) -> Option<Meeting>
-    requires buys { Passed (plain settings.now) Buy (orders book.now) buy_place }
-    requires sells { Passed (plain settings.now) Sell (orders book.now) sell_place }
-    ensures { NextMeeting (plain settings.now) price volume (orders book.now) result }
+    requires buys { Passed (plain settings.now) Buy (B.orders book.now) buy_place }
+    requires sells { Passed (plain settings.now) Sell (B.orders book.now) sell_place }
+    ensures { NextMeeting (plain settings.now) price volume (B.orders book.now) result }
 {
     if volume == 0 {
         return None;
@@ -68,11 +68,11 @@ pub(crate) fn trade<B: Book>(
     tape: &mut [TapeRecord],
     place: usize,
 )
-    requires buy { can_take met.quantity (find met.buy (orders book.old)) ≡ true }
-    requires sell { can_take met.quantity (find met.sell (lower met.buy met.quantity (orders book.old))) ≡ true }
+    requires buy { can_take met.quantity (find met.buy (B.orders book.old)) ≡ true }
+    requires sell { can_take met.quantity (find met.sell (lower met.buy met.quantity (B.orders book.old))) ≡ true }
     requires place { place < length tape.old }
-    ensures after { orders book.new ≡ apply_trade (trade_record price met) (orders book.old) }
-    ensures room { capacity book.new ≡ capacity book.old }
+    ensures after { B.orders book.new ≡ apply_trade (trade_record price met) (B.orders book.old) }
+    ensures room { B.capacity book.new ≡ B.capacity book.old }
     ensures record { tape.new ≡ slice_set tape.old place (trade_record price met) }
 {
     book.take(met.buy, met.quantity);

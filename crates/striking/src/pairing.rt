@@ -27,13 +27,13 @@ pub(crate) fn pair_orders<B: Book>(
     tape: &mut [TapeRecord],
     at: usize,
 ) -> Pairing
-    requires { length (trades_at (plain settings.now) price volume (orders book.old)) ≤ length tape.old - at }
-    ensures next { result.next ≡ at + length (trades_at (plain settings.now) price volume (orders book.old)) }
-    ensures buy { result.buy ≡ last_party Buy 0 (trades_at (plain settings.now) price volume (orders book.old)) }
-    ensures sell { result.sell ≡ last_party Sell 0 (trades_at (plain settings.now) price volume (orders book.old)) }
-    ensures after { orders book.new ≡ apply_trades (trades_at (plain settings.now) price volume (orders book.old)) (orders book.old) }
-    ensures room { capacity book.new ≡ capacity book.old }
-    ensures records { tape.new ≡ written tape.old at (trades_at (plain settings.now) price volume (orders book.old)) }
+    requires { length (trades_at (plain settings.now) price volume (B.orders book.old)) ≤ length tape.old - at }
+    ensures next { result.next ≡ at + length (trades_at (plain settings.now) price volume (B.orders book.old)) }
+    ensures buy { result.buy ≡ last_party Buy 0 (trades_at (plain settings.now) price volume (B.orders book.old)) }
+    ensures sell { result.sell ≡ last_party Sell 0 (trades_at (plain settings.now) price volume (B.orders book.old)) }
+    ensures after { B.orders book.new ≡ apply_trades (trades_at (plain settings.now) price volume (B.orders book.old)) (B.orders book.old) }
+    ensures room { B.capacity book.new ≡ B.capacity book.old }
+    ensures records { tape.new ≡ written tape.old at (trades_at (plain settings.now) price volume (B.orders book.old)) }
 {
     let mut remaining = volume;
     let mut next = at;

@@ -14,7 +14,7 @@ pub(crate) fn first_party<B: Book>(
     price: u32,
     from: usize,
 ) -> Option<(usize, StandingOrder)>
-    ensures { First (plain settings.now) side price (orders book.now) from result }
+    ensures { First (plain settings.now) side price (B.orders book.now) from result }
 {
     match first_active(book, settings, side, from) {
         Some(found) => {

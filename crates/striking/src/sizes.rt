@@ -95,8 +95,8 @@ fn size_of(tally: Tally, markets: usize) -> StrikeSize
 
 // How many trades a strike makes, and how many market orders trade nothing in it.
 pub fn strike_size<B: Book>(book: &B, settings: &Settings, price: u32, volume: u64) -> StrikeSize
-    ensures trades { result.trades ≡ length (trades_at (plain settings.now) price volume (orders book.now)) }
-    ensures idle { result.idle ≡ length (filter (is_idle (trades_at (plain settings.now) price volume (orders book.now))) (orders book.now)) }
+    ensures trades { result.trades ≡ length (trades_at (plain settings.now) price volume (B.orders book.now)) }
+    ensures idle { result.idle ≡ length (filter (is_idle (trades_at (plain settings.now) price volume (B.orders book.now))) (B.orders book.now)) }
 {
     let start = Progress {
         place: 0,
@@ -117,8 +117,8 @@ pub fn strike_size<B: Book>(book: &B, settings: &Settings, price: u32, volume: u
 
 // Counts the next trade, or none where every trade is counted.
 fn count_next<B: Book>(book: &B, settings: &Settings, price: u32, tally: Tally) -> Option<Tally>
-    requires { (v : ℕ) × (v < 2 ^ 64) × Counts (plain settings.now) price v (orders book.now) tally }
-    ensures { NextCount (plain settings.now) price (orders book.now) tally result }
+    requires { (v : ℕ) × (v < 2 ^ 64) × Counts (plain settings.now) price v (B.orders book.now) tally }
+    ensures { NextCount (plain settings.now) price (B.orders book.now) tally result }
 {
     if tally.remaining == 0 {
         return None;

@@ -14,8 +14,8 @@ use withdrawing::withdraw_markets;
 
 // Turns the orders that traded last into limit orders at the price, where they are market orders that still stand.
 fn turn_last<B: Book>(book: &mut B, last: Pairing, price: u32)
-    ensures after { orders book.new ≡ turned last.sell price (turned last.buy price (orders book.old)) }
-    ensures room { capacity book.new ≡ capacity book.old }
+    ensures after { B.orders book.new ≡ turned last.sell price (turned last.buy price (B.orders book.old)) }
+    ensures room { B.capacity book.new ≡ B.capacity book.old }
 {
     book.turn(last.buy, price);
     book.turn(last.sell, price);
@@ -31,12 +31,12 @@ fn trade_volume<B: Book>(
     at: usize,
 ) -> usize
     requires grid { on_grid (plain settings.now) price ≡ true }
-    requires places { length (trades_at (plain settings.now) price volume (orders book.old)) ≤ length tape.old - at }
-    ensures next { result ≡ at + length (trades_at (plain settings.now) price volume (orders book.old)) }
-    ensures idle { filter is_market_order (orders book.new) ≡ filter (idle (trades_at (plain settings.now) price volume (orders book.old))) (orders book.old) }
-    ensures others { filter (λ o. not (is_market_order o)) (orders book.new) ≡ struck_orders price (trades_at (plain settings.now) price volume (orders book.old)) (orders book.old) }
-    ensures room { capacity book.new ≡ capacity book.old }
-    ensures records { tape.new ≡ written tape.old at (trades_at (plain settings.now) price volume (orders book.old)) }
+    requires places { length (trades_at (plain settings.now) price volume (B.orders book.old)) ≤ length tape.old - at }
+    ensures next { result ≡ at + length (trades_at (plain settings.now) price volume (B.orders book.old)) }
+    ensures idle { filter is_market_order (B.orders book.new) ≡ filter (idle (trades_at (plain settings.now) price volume (B.orders book.old))) (B.orders book.old) }
+    ensures others { filter (λ o. not (is_market_order o)) (B.orders book.new) ≡ struck_orders price (trades_at (plain settings.now) price volume (B.orders book.old)) (B.orders book.old) }
+    ensures room { B.capacity book.new ≡ B.capacity book.old }
+    ensures records { tape.new ≡ written tape.old at (trades_at (plain settings.now) price volume (B.orders book.old)) }
 {
     let last = pair_orders(book, settings, price, volume, tape, at);
     turn_last(book, last, price);
@@ -54,11 +54,11 @@ pub fn strike<B: Book>(
     at: usize,
 ) -> usize
     requires grid { on_grid (plain settings.now) price ≡ true }
-    requires places { length (struck_records (trades_at (plain settings.now) price volume (orders book.old)) (orders book.old)) ≤ length tape.old - at }
-    ensures answer { result ≡ length (struck_records (trades_at (plain settings.now) price volume (orders book.old)) (orders book.old)) }
-    ensures after { orders book.new ≡ struck_orders price (trades_at (plain settings.now) price volume (orders book.old)) (orders book.old) }
-    ensures room { capacity book.new ≡ capacity book.old }
-    ensures records { tape.new ≡ written tape.old at (struck_records (trades_at (plain settings.now) price volume (orders book.old)) (orders book.old)) }
+    requires places { length (struck_records (trades_at (plain settings.now) price volume (B.orders book.old)) (B.orders book.old)) ≤ length tape.old - at }
+    ensures answer { result ≡ length (struck_records (trades_at (plain settings.now) price volume (B.orders book.old)) (B.orders book.old)) }
+    ensures after { B.orders book.new ≡ struck_orders price (trades_at (plain settings.now) price volume (B.orders book.old)) (B.orders book.old) }
+    ensures room { B.capacity book.new ≡ B.capacity book.old }
+    ensures records { tape.new ≡ written tape.old at (struck_records (trades_at (plain settings.now) price volume (B.orders book.old)) (B.orders book.old)) }
 {
     let next = trade_volume(book, settings, price, volume, tape, at);
     let withdrawn = withdraw_markets(book, tape, next);

@@ -18,7 +18,7 @@ pub fn first_active<B: Book>(
     side: Side,
     from: usize,
 ) -> Option<(usize, StandingOrder)>
-    ensures { Next (plain settings.now) (ranked side (orders book.now)) from result }
+    ensures { Next (plain settings.now) (ranked side (B.orders book.now)) from result }
 {
     let (count, _) = book.count();
     for i in from..count {

@@ -9,7 +9,7 @@ use model::Side;
 
 // How many market orders stand.
 pub fn count_markets<B: Book>(book: &B) -> usize
-    ensures { result ≡ length (filter is_market_order (orders book.now)) }
+    ensures { result ≡ length (filter is_market_order (B.orders book.now)) }
 {
     let buys = markets_on(book, Side::Buy);
     let sells = markets_on(book, Side::Sell);
@@ -18,7 +18,7 @@ pub fn count_markets<B: Book>(book: &B) -> usize
 
 // How many market orders stand on a side, where they rank first.
 fn markets_on<B: Book>(book: &B, side: Side) -> usize
-    ensures { result ≡ length (filter is_market_order (ranked side (orders book.now))) }
+    ensures { result ≡ length (filter is_market_order (ranked side (B.orders book.now))) }
 {
     let mut n = 0;
     'walk: while is_market_order(book.nth(side, n + 1)) {

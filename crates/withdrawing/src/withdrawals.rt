@@ -15,11 +15,11 @@ use model::{Reason, TapeRecord};
 
 // Withdraws every market order, by number, and answers how many.
 pub fn withdraw_markets<B: Book>(book: &mut B, tape: &mut [TapeRecord], at: usize) -> usize
-    requires { length (filter is_market_order (orders book.old)) ≤ length tape.old - at }
-    ensures answer { result ≡ length (filter is_market_order (orders book.old)) }
-    ensures after { orders book.new ≡ filter (λ o. not (is_market_order o)) (orders book.old) }
-    ensures room { capacity book.new ≡ capacity book.old }
-    ensures records { tape.new ≡ written tape.old at (map (withdrawal AfterAuction) (filter is_market_order (orders book.old))) }
+    requires { length (filter is_market_order (B.orders book.old)) ≤ length tape.old - at }
+    ensures answer { result ≡ length (filter is_market_order (B.orders book.old)) }
+    ensures after { B.orders book.new ≡ filter (λ o. not (is_market_order o)) (B.orders book.old) }
+    ensures room { B.capacity book.new ≡ B.capacity book.old }
+    ensures records { tape.new ≡ written tape.old at (map (withdrawal AfterAuction) (filter is_market_order (B.orders book.old))) }
 {
     // market orders rank first, so that a book without one is known at once
     if count_markets(book) == 0 {
@@ -30,22 +30,22 @@ pub fn withdraw_markets<B: Book>(book: &mut B, tape: &mut [TapeRecord], at: usiz
 
 // Withdraws every order, by number, and answers how many.
 pub fn withdraw_all<B: Book>(book: &mut B, tape: &mut [TapeRecord], at: usize) -> usize
-    requires { length (orders book.old) ≤ length tape.old - at }
-    ensures answer { result ≡ length (orders book.old) }
-    ensures after { orders book.new ≡ [] }
-    ensures room { capacity book.new ≡ capacity book.old }
-    ensures records { tape.new ≡ written tape.old at (map (withdrawal AtClose) (orders book.old)) }
+    requires { length (B.orders book.old) ≤ length tape.old - at }
+    ensures answer { result ≡ length (B.orders book.old) }
+    ensures after { B.orders book.new ≡ [] }
+    ensures room { B.capacity book.new ≡ B.capacity book.old }
+    ensures records { tape.new ≡ written tape.old at (map (withdrawal AtClose) (B.orders book.old)) }
 {
     withdraw_chosen(book, Which::AllOrders, Reason::AtClose, tape, at)
 }
 
 // Withdraws all that is left of a standing order at its member's word, and answers it.
 pub fn withdraw_one<B: Book>(book: &mut B, number: u64, tape: &mut [TapeRecord], at: usize) -> u64
-    requires stands { is_some (found number (orders book.old)) ≡ true }
+    requires stands { is_some (found number (B.orders book.old)) ≡ true }
     requires place { at < length tape.old }
-    ensures answer { result ≡ left_of (found number (orders book.old)) }
-    ensures after { orders book.new ≡ lower number result (orders book.old) }
-    ensures room { capacity book.new ≡ capacity book.old }
+    ensures answer { result ≡ left_of (found number (B.orders book.old)) }
+    ensures after { B.orders book.new ≡ lower number result (B.orders book.old) }
+    ensures room { B.capacity book.new ≡ B.capacity book.old }
     ensures records { tape.new ≡ written tape.old at (Withdrawal number result ByMember ∷ []) }
 {
     let order = book.find(number).unwrap();
@@ -61,11 +61,11 @@ fn withdraw_chosen<B: Book>(
     tape: &mut [TapeRecord],
     at: usize,
 ) -> usize
-    requires { length (filter (chosen which) (orders book.old)) ≤ length tape.old - at }
-    ensures answer { result ≡ length (filter (chosen which) (orders book.old)) }
-    ensures after { orders book.new ≡ filter (λ o. not (chosen which o)) (orders book.old) }
-    ensures room { capacity book.new ≡ capacity book.old }
-    ensures records { tape.new ≡ written tape.old at (map (withdrawal reason) (filter (chosen which) (orders book.old))) }
+    requires { length (filter (chosen which) (B.orders book.old)) ≤ length tape.old - at }
+    ensures answer { result ≡ length (filter (chosen which) (B.orders book.old)) }
+    ensures after { B.orders book.new ≡ filter (λ o. not (chosen which o)) (B.orders book.old) }
+    ensures room { B.capacity book.new ≡ B.capacity book.old }
+    ensures records { tape.new ≡ written tape.old at (map (withdrawal reason) (filter (chosen which) (B.orders book.old))) }
 {
     let mut last = 0;
     let mut next = at;
@@ -85,11 +85,11 @@ fn withdraw_if<B: Book>(
     tape: &mut [TapeRecord],
     at: usize,
 ) -> usize
-    requires whole { can_take order.left (found order.number (orders book.old)) ≡ true }
+    requires whole { can_take order.left (found order.number (B.orders book.old)) ≡ true }
     requires place { chosen which (plain order) ≡ true → at < length tape.old }
     ensures answer { result ≡ at + (if chosen which (plain order) then 1 else 0) }
-    ensures after { orders book.new ≡ (if chosen which (plain order) then lower order.number order.left (orders book.old) else orders book.old) }
-    ensures room { capacity book.new ≡ capacity book.old }
+    ensures after { B.orders book.new ≡ (if chosen which (plain order) then lower order.number order.left (B.orders book.old) else B.orders book.old) }
+    ensures room { B.capacity book.new ≡ B.capacity book.old }
     ensures records { tape.new ≡ (if chosen which (plain order) then slice_set tape.old at (withdrawal reason (plain order)) else tape.old) }
 {
     if which.chooses(order) {
@@ -108,10 +108,10 @@ fn withdraw_whole<B: Book>(
     tape: &mut [TapeRecord],
     at: usize,
 )
-    requires whole { can_take order.left (found order.number (orders book.old)) ≡ true }
+    requires whole { can_take order.left (found order.number (B.orders book.old)) ≡ true }
     requires place { at < length tape.old }
-    ensures after { orders book.new ≡ lower order.number order.left (orders book.old) }
-    ensures room { capacity book.new ≡ capacity book.old }
+    ensures after { B.orders book.new ≡ lower order.number order.left (B.orders book.old) }
+    ensures room { B.capacity book.new ≡ B.capacity book.old }
     ensures records { tape.new ≡ slice_set tape.old at (withdrawal reason (plain order)) }
 {
     book.take(order.number, order.left);

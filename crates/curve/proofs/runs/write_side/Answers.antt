@@ -11,8 +11,8 @@ pub loop-turn-preserved : goal.loop-turn-preserved
 loop-turn-preserved g c = (
   c.reach-mark.ensures.counted,
   written_more (plain c.args.settings.now) c.args.side (ranked c.args.side (g.B.Book.orders c.args.book.now)) c.args.from c.args.points.now c.loop-turn.turn c.loop-turn.mark c.loop-turn.points c.loop-turn.invariant.1 c.loop-turn-test.true
-      c.loop-turn.auto.points c.place-in-turn-i.result c.place-in-turn-i.ensures.value c.place-in-turn-i.ensures.within c.price-in-run-price.result c.price-in-run-price.ensures c.reach-mark.result c.reach-mark.ensures.reached
-      _ c.with-volume.result c.with-volume.ensures,
+      c.loop-turn.auto.points c.place_in_turn-i.result c.place_in_turn-i.ensures.value c.place_in_turn-i.ensures.within c.price_in_run-price.result c.price_in_run-price.ensures c.reach-mark.result c.reach-mark.ensures.reached
+      _ c.with_volume.result c.with_volume.ensures,
 )
 
 pub returns : goal.returns

@@ -15,7 +15,7 @@ loop-price-preserved c =
     let at = some_price (ltb n (count g)) c.in-Some.price (lowest g + n * g.tick) c.in-Some.ensures in
     let here : n < count g = ltb-true n (count g) at.0 in (
       omega arith,
-      ap (λ xs. set xs n c.point-at.result) c.loop-price.invariant.1
-          ∙ ap (λ x. set (filled g os n before) n x) (c.point-at.ensures ∙ ap (point g os) at.1)
+      ap (λ xs. set xs n c.point_at.result) c.loop-price.invariant.1
+          ∙ ap (λ x. set (filled g os n before) n x) (c.point_at.ensures ∙ ap (point g os) at.1)
           ∙ filled_more g os n before (omega (arith, c.requires.room)),
     )

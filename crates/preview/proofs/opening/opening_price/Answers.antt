@@ -14,10 +14,10 @@ returns g c =
     let s = plain c.args.settings.now in
     let os = c.args.orders.now in
     let r = g.R.PriceRule.rule c.args.rule.now.below in
-    let done = c.in-ok-count.ensures in
-    let front = curve_front s os c.in-ok-count.count c.args.scratch.now c.write-curve.new.scratch done.value.0 done.scratch in
-    let priced : c.if-trades.result ≡ call_price r s os =
-    c.if-trades.ensures ∙ ap if_trades (c.called-price-called.ensures.value ∙ ap (called (most_traded r) s.indicative) front) in
+    let done = c.in_ok-count.ensures in
+    let front = curve_front s os c.in_ok-count.count c.args.scratch.now c.write_curve.new.scratch done.value.0 done.scratch in
+    let priced : c.if_trades.result ≡ call_price r s os =
+    c.if_trades.ensures ∙ ap if_trades (c.called_price-called.ensures.value ∙ ap (called (most_traded r) s.indicative) front) in
     let law : Lawful r = record { asymmetric = g.met.R.PriceRule.asymmetric c.args.rule.now.below; transitive = g.met.R.PriceRule.transitive c.args.rule.now.below } in
     record {
       value = (priced, done.value.1);

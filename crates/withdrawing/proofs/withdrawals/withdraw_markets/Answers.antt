@@ -6,10 +6,10 @@ use Rattle.model.specs.Records.{written}
 use Rattle.withdrawing.proofs.Walk.{none_chosen}
 use Rattle.withdrawing.proofs.withdrawals.withdraw_markets.Goals as goal
 
-pub returns-then-count-markets-eq0 : goal.returns-then-count-markets-eq0
-returns-then-count-markets-eq0 g c =
+pub returns-then-count_markets-eq0 : goal.returns-then-count_markets-eq0
+returns-then-count_markets-eq0 g c =
     let os = g.B.Book.orders c.args.book.now in
-    let none : length (filter is_market_order os) ≡ 0 = sym c.count-markets.ensures ∙ c.if-count-markets-eq0.true in
+    let none : length (filter is_market_order os) ≡ 0 = sym c.count_markets.ensures ∙ c.if-count_markets-eq0.true in
     let n = none_chosen is_market_order os none in
     record {
       answer = sym none;
