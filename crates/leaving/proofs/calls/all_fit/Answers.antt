@@ -11,7 +11,7 @@ returns g c =
     let os = g.B.Book.orders c.args.book.now in
     let same = length-map os (withdrawal AtClose) in
     record {
-      value = ap (leb c.count-count.result.0) c.free-places.ensures ∙ ap (λ n. leb n (min c.args.tape max_places - c.args.day.now.used)) (c.count-count.ensures.0 ∙ sym same);
-      room = λ h. omega (arith, leb-true c.count-count.result.0 c.free-places.result h, c.free-places.ensures, c.count-count.ensures.0);
+      value = ap (leb c.count-count.result.0) c.free_places.ensures ∙ ap (λ n. leb n (min c.args.tape max_places - c.args.day.now.used)) (c.count-count.ensures.0 ∙ sym same);
+      room = λ h. omega (arith, leb-true c.count-count.result.0 c.free_places.result h, c.free_places.ensures, c.count-count.ensures.0);
       records = same;
     }

@@ -6,18 +6,18 @@ use Rattle.striking.proofs.sizes.strike_size.Goals as goal
 pub counting-init : goal.counting-init
 counting-init g c = counts_start (plain-settings c.args.settings.now) c.args.price c.args.volume (g.B.Book.orders c.args.book.now)
 
-pub count-next-requires : goal.count-next-requires
-count-next-requires g c = (c.args.volume, omega (arith, c.ranges.volume), c.counting.invariant)
+pub count_next-requires : goal.count_next-requires
+count_next-requires g c = (c.args.volume, omega (arith, c.ranges.volume), c.counting.invariant)
 
-pub size-of-requires : goal.size-of-requires
-size-of-requires g c =
-    let done = counts_done (plain-settings c.args.settings.now) c.args.price c.args.volume (g.B.Book.orders c.args.book.now) c.counting.tally c.counting.invariant c.in-default.ensures in
-    omega (arith, done.1, c.count-markets.ensures)
+pub size_of-requires : goal.size_of-requires
+size_of-requires g c =
+    let done = counts_done (plain-settings c.args.settings.now) c.args.price c.args.volume (g.B.Book.orders c.args.book.now) c.counting.tally c.counting.invariant c.in_default.ensures in
+    omega (arith, done.1, c.count_markets.ensures)
 
 pub returns : goal.returns
 returns g c =
-    let done = counts_done (plain-settings c.args.settings.now) c.args.price c.args.volume (g.B.Book.orders c.args.book.now) c.counting.tally c.counting.invariant c.in-default.ensures in
+    let done = counts_done (plain-settings c.args.settings.now) c.args.price c.args.volume (g.B.Book.orders c.args.book.now) c.counting.tally c.counting.invariant c.in_default.ensures in
     record {
-      trades = c.size-of.ensures.trades ∙ done.0;
-      idle = omega (arith, done.1, c.count-markets.ensures, c.size-of.ensures.idle);
+      trades = c.size_of.ensures.trades ∙ done.0;
+      idle = omega (arith, done.1, c.count_markets.ensures, c.size_of.ensures.idle);
     }
