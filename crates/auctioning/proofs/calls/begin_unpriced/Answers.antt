@@ -10,12 +10,12 @@ use Rattle.model.specs.Views.{view}
 use Rattle.auctioning.proofs.Outcomes.{tape_full, tape_fits, length_unpriced, trading_is}
 use Rattle.auctioning.proofs.calls.begin_unpriced.Goals as goal
 
-pub returns-then-not-markets-fit : goal.returns-then-not-markets-fit
-returns-then-not-markets-fit g c =
+pub returns-then-not-markets_fit : goal.returns-then-not-markets_fit
+returns-then-not-markets_fit g c =
     let os : List Order = g.B.Book.orders c.args.book.now in
     let state : Settings → State = λ set. view set c.args.day.now os (g.B.Book.capacity c.args.book.now) in
     record {
-      came = λ set. tape_full (state set) (unpriced (state set)) _ c.args.tape.now (length (filter is_market_order os)) refl (length_unpriced (state set)) (sym c.if-not-markets-fit.ensures);
+      came = λ set. tape_full (state set) (unpriced (state set)) _ c.args.tape.now (length (filter is_market_order os)) refl (length_unpriced (state set)) (sym c.if-not-markets_fit.ensures);
       none = tt;
       room = refl;
     }
@@ -25,12 +25,12 @@ returns g c =
     let os : List Order = g.B.Book.orders c.args.book.now in
     let state : Settings → State = λ set. view set c.args.day.now os (g.B.Book.capacity c.args.book.now) in
     let markets : List Order = filter is_market_order os in
-    let done = c.withdraw-markets-records.ensures in
+    let done = c.withdraw_markets-records.ensures in
     record {
       came = λ set.
-          tape_fits (state set) _ (unpriced (state set)) _ 0 c.args.tape.now c.withdraw-markets-records.new.tape (length markets) refl (length_unpriced (state set)) (sym c.if-not-markets-fit.ensures) refl refl
-          (trading_is set c.args.day.now c.begin-trading.new.day os (g.B.Book.orders c.withdraw-markets-records.new.book) (unpriced (state set)).state.orders (g.B.Book.capacity c.args.book.now) (g.B.Book.capacity c.withdraw-markets-records.new.book) c.args.day.now.reference c.withdraw-markets-records.result (map (withdrawal AfterAuction) markets) c.begin-trading.ensures (done.answer ∙ sym (length_unpriced (state set))) done.after done.room)
-          (done.records ∙ ap (λ n. written c.args.tape.now n (map (withdrawal AfterAuction) markets)) c.next-place-place.ensures);
+          tape_fits (state set) _ (unpriced (state set)) _ 0 c.args.tape.now c.withdraw_markets-records.new.tape (length markets) refl (length_unpriced (state set)) (sym c.if-not-markets_fit.ensures) refl refl
+          (trading_is set c.args.day.now c.begin_trading.new.day os (g.B.Book.orders c.withdraw_markets-records.new.book) (unpriced (state set)).state.orders (g.B.Book.capacity c.args.book.now) (g.B.Book.capacity c.withdraw_markets-records.new.book) c.args.day.now.reference c.withdraw_markets-records.result (map (withdrawal AfterAuction) markets) c.begin_trading.ensures (done.answer ∙ sym (length_unpriced (state set))) done.after done.room)
+          (done.records ∙ ap (λ n. written c.args.tape.now n (map (withdrawal AfterAuction) markets)) c.next_place-place.ensures);
       none = refl;
       room = done.room;
     }

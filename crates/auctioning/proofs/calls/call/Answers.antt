@@ -21,15 +21,15 @@ returns g c =
     let s' : State = view set c.conclude.new.day (g.B.Book.orders c.conclude.new.book) (g.B.Book.capacity c.conclude.new.book) in
     let r : Rule = g.R.PriceRule.rule c.args.rule.now.below in
     let tape = c.args.tape.now in
-    let found = c.in-ok-found.found in
-    let there = c.in-ok-found.ensures.value in
+    let found = c.in_ok-found.found in
+    let there = c.in_ok-found.ensures.value in
     let law : Lawful r = record { asymmetric = g.met.R.PriceRule.asymmetric c.args.rule.now.below; transitive = g.met.R.PriceRule.transitive c.args.rule.now.below } in
     record {
       came =
           subst (λ o. Came o (without_point c.conclude.result) s' tape s.used c.conclude.new.tape)
           (ap (call_result s (length tape)) there.1 ∙ sym (call_done r s c.requires (length tape) (length c.args.scratch.now) there.0))
           (c.conclude.ensures.came set);
-      scratch = c.find-price.ensures.scratch ∙ sym (scratch_is s c.requires c.args.scratch.now);
+      scratch = c.find_price.ensures.scratch ∙ sym (scratch_is s c.requires c.args.scratch.now);
       price = priced_is r law set (valid c.args.settings.now) os found c.conclude.result there.1 c.conclude.ensures.same;
       room = c.conclude.ensures.room;
     }

@@ -9,10 +9,10 @@ pub returns-then-not-active : goal.returns-then-not-active
 returns-then-not-active g c =
     let book = c.args.book.now in
     let s : State = view (plain c.args.settings.now) c.args.day.now (g.B.Book.orders book) (g.B.Book.capacity book) in
-    inactive_runs s c.args.entry c.if-not-is-trading.ensures c.if-not-active.ensures c.inactive-course.result c.inactive-course.ensures
+    inactive_runs s c.args.entry c.if-not-is_trading.ensures c.if-not-active.ensures c.inactive_course.result c.inactive_course.ensures
 
 pub returns : goal.returns
 returns g c =
     let book = c.args.book.now in
     let s : State = view (plain c.args.settings.now) c.args.day.now (g.B.Book.orders book) (g.B.Book.capacity book) in
-    active_runs s c.args.entry c.args.settings.now.static_high (g.B.Book.kept.bounded book) (omega (arith, g.B.Book.kept.fitting book, g.B.Book.kept.limited book)) c.plan-plan.result c.plan-plan.ensures c.if-not-is-trading.ensures c.if-not-active.ensures c.active-course.result c.active-course.ensures
+    active_runs s c.args.entry c.args.settings.now.static_high (g.B.Book.kept.bounded book) (omega (arith, g.B.Book.kept.fitting book, g.B.Book.kept.limited book)) c.plan-plan.result c.plan-plan.ensures c.if-not-is_trading.ensures c.if-not-active.ensures c.active_course.result c.active_course.ensures
