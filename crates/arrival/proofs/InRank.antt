@@ -1,6 +1,6 @@
 -- The orders of a side one after another in rank, each found by one scan.
 use Rattle.std.proofs.Common.{◌≡◌, ℕ, zero, suc, ◌+◌, ◌-◌, ◌<◌, ◌≤◌, Bool, true, false, List, [], ◌∷◌, length, get_or, drop, Some, None, filter, Option, sym, refl, ap, ◌∙◌, subst, ⊎_elim, add-one, arith}
-use Rattle.std.specs.List.{AllByRecursion as All}
+use Rattle.std.specs.List.{AllByRecursion}
 use Rattle.std.proofs.ByRecursion.{All-drop}
 use Rattle.std.proofs.lemmas.List.{at_drop_more, at_drop_all, drop_all, length-drop}
 use Rattle.std.proofs.lemmas.Bool.{cases_Bool, cond-true, cond-false}
@@ -45,7 +45,7 @@ scan_more s from best r os i l h inv e =
     e ∙ ap (λ b. best_with s from b o) (inv ∙ ap (λ k. best_of s from (drop k os)) up) ∙ sym (best_step s from o (drop (i - 1 + 1) os)) ∙ sym (at_drop_more (best_of s from) os (i - 1) blank (omega arith))
 
 -- a filter that every order passes
-kept_all : (p : Order → Bool) (xs : List Order) → All (λ x. p x ≡ true) xs → filter p xs ≡ xs
+kept_all : (p : Order → Bool) (xs : List Order) → AllByRecursion (λ x. p x ≡ true) xs → filter p xs ≡ xs
 kept_all p [] h = refl
 kept_all p (x ∷ xs) h = cond-true (p x) _ _ h.0 ∙ ap (λ l. x ∷ l) (kept_all p xs h.1)
 
@@ -58,9 +58,9 @@ behind_after : (s : Side) (x : Order) (xs : List Order) (i : ℕ) → Pairwise (
 behind_after s x [] i h e = absurd (omega (arith, ap length e, length-drop {A = Order} i []))
 behind_after s x (y ∷ ys) zero h e =
     let same : y ≡ x = cc in
-    cond-false (before s x y) _ _ (ap (before s x) same ∙ before_self s x) ∙ kept_all (before s x) ys (subst (λ v. All (λ z. before s v z ≡ true) ys) same h.0)
+    cond-false (before s x y) _ _ (ap (before s x) same ∙ before_self s x) ∙ kept_all (before s x) ys (subst (λ v. AllByRecursion (λ z. before s v z ≡ true) ys) same h.0)
 behind_after s x (y ∷ ys) (suc i) h e =
-    let earlier = subst (All (λ z. before s y z ≡ true)) e (All-drop (λ z. before s y z ≡ true) i ys h.0) in
+    let earlier = subst (AllByRecursion (λ z. before s y z ≡ true)) e (All-drop (λ z. before s y z ≡ true) i ys h.0) in
     cond-false (before s x y) _ _ (before_asym s y x earlier.0) ∙ behind_after s x ys i h.1 e
 
 -- all orders are behind none

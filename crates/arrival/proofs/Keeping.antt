@@ -1,7 +1,7 @@
 -- What a book keeps as its orders change.
 use Rattle.std.proofs.Common.{◌≡◌, ℕ, suc, ◌+◌, ◌-◌, ◌<◌, ◌≤◌, min, true, false, ◌&&◌, ltb, leb, List, [], ◌∷◌, ◌++◌, length, get_or, take, drop, set, sym, refl, ap, ◌∙◌, subst, arith}
 use lib.Seq.{take-set-lt}
-use Rattle.std.specs.List.{remove, AllByRecursion as All}
+use Rattle.std.specs.List.{remove, AllByRecursion}
 use Rattle.std.proofs.ByRecursion.{All-get_or, All-set, All-append, All-take, All-drop, All-push}
 use Rattle.std.proofs.lemmas.List.{get_or-take, length-set, length-take-le, take_more_set}
 use Rattle.std.proofs.lemmas.Bool.{and_parts, ltb-true, le-leb, lt-leb, eqb-true}
@@ -144,7 +144,7 @@ module _ (f g : Front) (n i : ℕ) (row : Order) (fits : Fits f) (h : Held (orde
       becomes f g (lower n q (orders_in f)) (omega arith) r (e ∙ sym is)
       (record {
         standing = lower_standing 0 max_number n q (orders_in f) h.standing;
-        bounded = subst (All Bounded) (sym is) (All-append Bounded (take i (orders_in f)) (drop (suc i) (orders_in f)) (All-take Bounded i (orders_in f) h.bounded) (All-drop Bounded (suc i) (orders_in f) h.bounded));
+        bounded = subst (AllByRecursion Bounded) (sym is) (All-append Bounded (take i (orders_in f)) (drop (suc i) (orders_in f)) (All-take Bounded i (orders_in f) h.bounded) (All-drop Bounded (suc i) (orders_in f) h.bounded));
       })
 
   -- it gets a limit price

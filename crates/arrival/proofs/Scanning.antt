@@ -1,6 +1,6 @@
 -- The first order that a scan finds, and its check.
 use Rattle.std.proofs.Common.{◌≡◌, ℕ, zero, suc, ◌<◌, ◌≤◌, Bool, true, false, cond, ◌&&◌, eqb, ltb, List, [], ◌∷◌, length, get_or, drop, Some, None, filter, sym, refl, ap, ◌∙◌, arith}
-use Rattle.std.specs.List.{AllByRecursion as All}
+use Rattle.std.specs.List.{AllByRecursion}
 use Rattle.std.proofs.ByRecursion.{All-drop}
 use Rattle.std.proofs.lemmas.List.{drop_all, drop_more}
 use Rattle.std.proofs.lemmas.Bool.{cond-true, cond-false}
@@ -65,11 +65,11 @@ above_on_first s n (o ∷ os) =
     ]
 
 -- the check lets a row in bounds pass
-pub checked_first : (xs : List Order) → All Bounded xs → checked (first xs) ≡ first xs
+pub checked_first : (xs : List Order) → AllByRecursion Bounded xs → checked (first xs) ≡ first xs
 checked_first [] h = refl
 checked_first (x ∷ xs) h = cond-true _ _ _ (bounded_in x h.0)
 
 -- and one in any place
-pub checked_place : (n : ℕ) (xs : List Order) → All Bounded xs → checked (place n xs) ≡ place n xs
+pub checked_place : (n : ℕ) (xs : List Order) → AllByRecursion Bounded xs → checked (place n xs) ≡ place n xs
 checked_place zero xs h = refl
 checked_place (suc n) xs h = checked_first (drop n xs) (All-drop Bounded n xs h)

@@ -1,6 +1,6 @@
 -- The nearest order above a number, found in any order of a side.
 use Rattle.std.proofs.Common.{◌≡◌, ℕ, ◌+◌, ◌<◌, true, false, cond, ltb, List, [], ◌∷◌, drop, Some, None, Option, sym, refl, ap, ◌∙◌, arith}
-use Rattle.std.specs.List.{AllByRecursion as All}
+use Rattle.std.specs.List.{AllByRecursion}
 use Rattle.std.proofs.ByRecursion.{all_kept_by}
 use Rattle.std.proofs.lemmas.Bool.{cond_both, cond-true, cond-false, lt-ltb, le-ltb}
 use Rattle.std.proofs.lemmas.Bool.Decides.{nat_tests}
@@ -33,7 +33,7 @@ nearer_swap n b x y d =
     ]
 
 -- an order's place in rank makes no difference
-nearest_insert : (n : ℕ) (b : Option Order) (s : Side) (o : Order) (xs : List Order) → All (λ x. o.number ≡ x.number → ⊥) xs → nearest n b (insert s o xs) ≡ nearest n b (o ∷ xs)
+nearest_insert : (n : ℕ) (b : Option Order) (s : Side) (o : Order) (xs : List Order) → AllByRecursion (λ x. o.number ≡ x.number → ⊥) xs → nearest n b (insert s o xs) ≡ nearest n b (o ∷ xs)
 nearest_insert n b s o [] d = refl
 nearest_insert n b s o (x ∷ xs) d =
     cond_both (before s o x) _ _ (λ l. nearest n b l ≡ nearest n b (o ∷ x ∷ xs))
@@ -48,7 +48,7 @@ nearest_ranked n b s (o ∷ os) d =
     (λ _. nearest_ranked n b s os d.1)
 
 -- the first of ascending orders stays
-nearest_first : (n : ℕ) (o : Order) (xs : List Order) → All (λ x. o.number < x.number) xs → nearest n (Some o) xs ≡ Some o
+nearest_first : (n : ℕ) (o : Order) (xs : List Order) → AllByRecursion (λ x. o.number < x.number) xs → nearest n (Some o) xs ≡ Some o
 nearest_first n o [] h = refl
 nearest_first n o (x ∷ xs) h =
     let e : nearer_of n (Some o) x ≡ Some o = cond_both (ltb n x.number) _ _ (λ a. a ≡ Some o) (λ _. cond-false (ltb x.number o.number) _ _ (le-ltb x.number o.number (omega arith))) (λ _. refl) in
@@ -66,21 +66,21 @@ pub next_on_side : (hi n : ℕ) (s : Side) (os : List Order) → Standing 0 os h
 next_on_side hi n s os h = nearest_ranked n None s os (standing_distinct 0 hi os h) ∙ nearest_ascending 0 hi n (of_side s os) (kept_standing (λ o. same_side s o.side) 0 hi os h)
 
 -- an order below all others is the lower-numbered
-first_lower : (n : ℕ) (o : Order) (xs : List Order) → All (λ x. o.number < x.number) xs → lower_numbered (Some o) (next_above n xs) ≡ Some o
+first_lower : (n : ℕ) (o : Order) (xs : List Order) → AllByRecursion (λ x. o.number < x.number) xs → lower_numbered (Some o) (next_above n xs) ≡ Some o
 first_lower n o [] h = refl
 first_lower n o (x ∷ xs) h =
     cond_both (ltb n x.number) _ _ (λ a. lower_numbered (Some o) a ≡ Some o)
     (λ _. cond-false (ltb x.number o.number) _ _ (le-ltb x.number o.number (omega arith)))
     (λ _. first_lower n o xs h.1)
 
-second_lower : (n : ℕ) (o : Order) (xs : List Order) → All (λ x. o.number < x.number) xs → lower_numbered (next_above n xs) (Some o) ≡ Some o
+second_lower : (n : ℕ) (o : Order) (xs : List Order) → AllByRecursion (λ x. o.number < x.number) xs → lower_numbered (next_above n xs) (Some o) ≡ Some o
 second_lower n o [] h = refl
 second_lower n o (x ∷ xs) h =
     cond_both (ltb n x.number) _ _ (λ a. lower_numbered a (Some o) ≡ Some o)
     (λ _. cond-true (ltb o.number x.number) _ _ (lt-ltb o.number x.number h.0))
     (λ _. second_lower n o xs h.1)
 
-side_above : (m hi : ℕ) (s : Side) (os : List Order) → Standing m os hi → All (λ x. m < x.number) (of_side s os)
+side_above : (m hi : ℕ) (s : Side) (os : List Order) → Standing m os hi → AllByRecursion (λ x. m < x.number) (of_side s os)
 side_above m hi s os h = all_kept_by (λ x. same_side s x.side) (λ x. m < x.number) os (standing_above m hi os h)
 
 -- the lower-numbered of what the two sides give, with the first order on the side r

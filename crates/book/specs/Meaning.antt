@@ -1,6 +1,6 @@
 -- What the operations of a book answer, and what holds of every book.
 use Rattle.std.specs.Prelude.{ℕ, zero, suc, ◌≤◌, Bool, true, false, cond, ◌&&◌, List, [], ◌∷◌, length, drop, Some, None, filter, Option, nat_le, nat_lt}
-use Rattle.std.specs.List.{AllByRecursion as All}
+use Rattle.std.specs.List.{AllByRecursion}
 use Rattle.model.specs.declared.types.Side.{Side}
 use Rattle.model.specs.declared.types.Order.{Order}
 use Rattle.model.specs.Numbers.{max_price, max_number, in_range}
@@ -63,6 +63,6 @@ nearer_of n best o = cond (nat_lt n o.number) (lower_numbered best (Some o)) bes
 -- what holds of every book: numbers ascend, contents are in bounds with something left, and the capacity, at most the largest, is kept
 pub record Kept {B : Type 0} (orders : B → List Order) (capacity : B → ℕ) : Type 0 where
   pub standing : (b : B) → Standing 0 (orders b) max_number
-  pub bounded : (b : B) → All Bounded (orders b)
+  pub bounded : (b : B) → AllByRecursion Bounded (orders b)
   pub fitting : (b : B) → length (orders b) ≤ capacity b
   pub limited : (b : B) → capacity b ≤ max_capacity

@@ -1,6 +1,6 @@
 -- A count over the active orders of a side in rank, one order at a time.
 use Rattle.std.proofs.Common.{◌≡◌, ℕ, zero, suc, ◌+◌, ◌-◌, ◌*◌, ◌<◌, ◌≤◌, Bool, true, false, cond, List, [], ◌∷◌, length, drop, Some, None, sym, refl, ap, ◌∙◌, subst, ⊎_elim, arith}
-use Rattle.std.specs.List.{AllByRecursion as All}
+use Rattle.std.specs.List.{AllByRecursion}
 use Rattle.std.proofs.ByRecursion.{All-weaker}
 use Rattle.std.proofs.lemmas.Bool.{both_ways, cases_Bool, cond-false, cond-true}
 use Rattle.std.proofs.lemmas.Bool.Decides.{nat_tests}
@@ -26,7 +26,7 @@ further_allows s Market p q h k = refl
 further_allows Buy (Limit l) p q h k = grind (arith, nat_tests)
 further_allows Sell (Limit l) p q h k = grind (arith, nat_tests)
 
-none_allows : (s : Side) (p : ℕ) (ys : List Order) → All (λ y. allows s y.price p ≡ false) ys → left_at s p ys ≡ 0
+none_allows : (s : Side) (p : ℕ) (ys : List Order) → AllByRecursion (λ y. allows s y.price p ≡ false) ys → left_at s p ys ≡ 0
 none_allows s p [] h = refl
 none_allows s p (y ∷ ys) h = omega (arith, cond-false (allows s y.price p) y.left 0 h.0, none_allows s p ys h.1)
 
@@ -49,7 +49,7 @@ module _ (g : Settings) (s : Side) (os : List Order) (from k : ℕ) (o : Order) 
       let R : Order → Order → Type 0 = λ x y. Wider s x.price y.price in
       let w : Pairwise R (actives g (drop from xs)) = pairwise_kept R (λ x. active g x.price) (drop from xs) (pairwise_drop R from xs (ranked_wider s os)) in
       let v : Pairwise R (o ∷ ys) = subst (Pairwise R) f.onward w in
-      let none : All (λ y. allows s y.price p ≡ false) (o ∷ ys) = (h, All-weaker (R o) (λ y. allows s y.price p ≡ false) (λ y r. ⊎_elim (λ t. absurd (both_ways (allows s o.price p) h (r p t))) (λ t. t) (cases_Bool (allows s y.price p))) ys v.0) in
+      let none : AllByRecursion (λ y. allows s y.price p ≡ false) (o ∷ ys) = (h, All-weaker (R o) (λ y. allows s y.price p ≡ false) (λ y r. ⊎_elim (λ t. absurd (both_ways (allows s o.price p) h (r p t))) (λ t. t) (cases_Bool (allows s y.price p))) ys v.0) in
       ap (left_at s p) (sym f.none_between ∙ f.onward) ∙ none_allows s p (o ∷ ys) none
 
 some_mark : (b : Bool) (x y : Mark) → Some x ≡ cond b (Some y) None → (b ≡ true) × (x ≡ y)

@@ -1,7 +1,7 @@
 -- What an order meets: how many fills at most, and the bounds of their prices.
 use Rattle.std.proofs.Common.{◌≡◌, ℕ, ◌+◌, ◌-◌, ◌*◌, ◌≤◌, min, Bool, true, not, ◌||◌, eqb, leb, List, [], ◌∷◌, length, filter, arith}
 use native.Mathlib.Nat.{one-le-mul}
-use Rattle.std.specs.List.{AllByRecursion as All}
+use Rattle.std.specs.List.{AllByRecursion}
 use Rattle.std.proofs.ByRecursion.{all_kept_by, All-weaker}
 use Rattle.std.proofs.lemmas.Bool.{cond_both, and_parts, and_from, le-leb, leb-true}
 use Rattle.model.specs.declared.types.Order.{Order}
@@ -25,7 +25,7 @@ length_active g s os =
     let test : Order → Bool = λ o. active g o.price in
     omega (arith, length_ranked s (filter test os), length_kept test os)
 
-all_active : (P : Order → Type 0) (g : Settings) (s : Side) (os : List Order) → All P os → All P (active_in_rank g s os)
+all_active : (P : Order → Type 0) (g : Settings) (s : Side) (os : List Order) → AllByRecursion P os → AllByRecursion P (active_in_rank g s os)
 all_active P g s os h =
     let test : Order → Bool = λ o. active g o.price in
     all_ranked P s (filter test os) (all_kept_by (of_side s) P (filter test os) (all_kept_by test P os h))
@@ -44,7 +44,7 @@ module _ (in_band : ℕ → Bool) (s : Side) (p : OrderPrice) where
       let i = length_fills (q - min q o.left) os in
       cond_both (eqb q 0 || not (allows s p (limit o.price))) _ _ P (λ _. omega arith) (λ _. cond_both (in_band (limit o.price)) _ _ P (λ _. omega arith) (λ _. omega arith))
 
-  last_in_bounds : ((x : ℕ) → in_band x ≡ true → 1 ≤ x) → (q : ℕ) (xs : List Order) → All (λ o. limit o.price ≤ max_price) xs → (a : OrderPrice) → price_in_bounds a ≡ true
+  last_in_bounds : ((x : ℕ) → in_band x ≡ true → 1 ≤ x) → (q : ℕ) (xs : List Order) → AllByRecursion (λ o. limit o.price ≤ max_price) xs → (a : OrderPrice) → price_in_bounds a ≡ true
       → price_in_bounds (last_price a (meet in_band s p q xs).fills) ≡ true
   last_in_bounds low q [] h a k = k
   last_in_bounds low q (o ∷ os) h a k =
@@ -57,7 +57,7 @@ module _ (in_band : ℕ → Bool) (s : Side) (p : OrderPrice) where
       (λ _. k))
 
 -- the price of the last fill, or the order's own
-pub last_price_in_bounds : (g : Settings) (reference : ℕ) (s other : Side) (p : OrderPrice) (q : ℕ) (os : List Order) → g.static ≤ 99 → 1 ≤ reference → All Bounded os → price_in_bounds p ≡ true
+pub last_price_in_bounds : (g : Settings) (reference : ℕ) (s other : Side) (p : OrderPrice) (q : ℕ) (os : List Order) → g.static ≤ 99 → 1 ≤ reference → AllByRecursion Bounded os → price_in_bounds p ≡ true
     → price_in_bounds (last_price p (meet (within g.static reference) s p q (active_in_rank g other os)).fills) ≡ true
 last_price_in_bounds g reference s other p q os w r h k =
     last_in_bounds (within g.static reference) s p (λ x b. band_low g.static reference x w r b) q (active_in_rank g other os)

@@ -1,6 +1,6 @@
 -- What remains of an accepted order stands, and the order comes to what the session says.
 use Rattle.std.proofs.Common.{◌≡◌, ℕ, ◌+◌, ◌<◌, ◌≤◌, true, ◌&&◌, ltb, leb, List, [], ◌∷◌, ◌++◌, map, length, Ok, sym, refl, ap, ◌∙◌, subst, append-nil, arith}
-use Rattle.std.specs.List.{AllByRecursion as All}
+use Rattle.std.specs.List.{AllByRecursion}
 use Rattle.std.proofs.lemmas.List.{length_push, length-map}
 use Rattle.std.proofs.lemmas.Bool.{cond_both, cond-true, ltb-true, ltb-false, and_from, lt-ltb, le-leb}
 use Rattle.model.specs.declared.types.Order.{Order}
@@ -42,7 +42,7 @@ written_behind tape t u used n fs rec own h et eu =
     let long : n ≡ length ts = length_some n fs h ∙ sym (length-map (some_fills n fs) rec) in
     eu ∙ ap (λ l. written l (used + n) own) et ∙ ap (λ k. written (written tape used ts) (used + k) own) long ∙ written_append tape used ts own
 
-below : (os : List Order) (n : ℕ) → All (λ o. o.number ≤ n) os → all_below os (n + 1) ≡ true
+below : (os : List Order) (n : ℕ) → AllByRecursion (λ o. o.number ≤ n) os → all_below os (n + 1) ≡ true
 below [] n h = refl
 below (o ∷ os) n h = and_from (ltb o.number (n + 1)) (all_below os (n + 1)) (lt-ltb o.number (n + 1) (omega arith)) (below os n h.1)
 

@@ -1,6 +1,6 @@
 -- The course of an order says what becomes of it.
 use Rattle.std.proofs.Common.{◌≡◌, ℕ, zero, suc, ◌+◌, ◌≤◌, Bool, true, false, cond, not, ◌&&◌, eqb, ltb, List, [], ◌∷◌, ◌++◌, map, length, sym, refl, ap, ◌∙◌, subst, append-nil, arith}
-use Rattle.std.specs.List.{AllByRecursion as All}
+use Rattle.std.specs.List.{AllByRecursion}
 use Rattle.std.proofs.lemmas.Bool.{cond_both, cond-true, cond-false, and_from, and_left, and_right, eq-eqb, ne_eqb, eqb-false, lt-ltb, not_from_true, not_from_false}
 use Rattle.model.specs.declared.types.Order.{Order}
 use Rattle.model.specs.declared.types.OrderPrice.{OrderPrice}
@@ -78,7 +78,7 @@ module _ (s : State) (e : Entry) where
       subst (λ v. settle_remaining s e ph ts os (suc q) (goes r) ≡ numbered s ph (ts ++ own_record number (suc q) (cond v Traded (Withdrawn r))) (os ++ own_order number e (suc q) (cond v Traded (Withdrawn r)))) (sym (ne_eqb (suc q) 0 (λ z. omega arith)))
       (ap (numbered s ph (ts ++ own_record number (suc q) (Withdrawn r))) (sym (append-nil os)))
 
-  module _ (w : s.settings.static ≤ 99) (bounded : All Bounded s.orders) (count : length s.orders ≤ max_capacity) (t : Plan) (plan : Planned s.orders e.price (meeting s e) t) where
+  module _ (w : s.settings.static ≤ 99) (bounded : AllByRecursion Bounded s.orders) (count : length s.orders ≤ max_capacity) (t : Plan) (plan : Planned s.orders e.price (meeting s e) t) where
     abbrev came_to : List Fill → Bool → ℕ → Fate → Outcome
     came_to fs b q f = numbered s (phase_after b) (map (trade_of e.side number) fs ++ own_record number q f) (after_fills fs s.orders ++ own_order number e q f)
 

@@ -4,7 +4,7 @@ ghost use Rattle.model.specs.Numbers.{max_places};
 ghost use Rattle.model.specs.Grid.{Settings};
 ghost use Rattle.model.specs.Orders.{withdrawal};
 ghost use Rattle.model.specs.State.{takes_withdrawals, takes_close};
-ghost use Rattle.model.specs.Calls.{stands_for, withdraw as withdrawal_of, close as CloseOf};
+ghost use Rattle.model.specs.Calls.{stands_for, withdraw as withdrawal_of, close as close_of};
 ghost use Rattle.model.specs.Views.{view, Came};
 ghost use Rattle.book.specs.Plain.{as_plain};
 
@@ -51,7 +51,7 @@ pub fn close<B: Book>(
     tape: &mut [TapeRecord],
 ) -> Result<u64, Refusal>
     requires { takes_close day.old.phase ≡ true }
-    ensures came { (g : Settings) → Came (CloseOf (view g day.old (B.orders book.old) (B.capacity book.old)) (length tape.old)) result (view g day.new (B.orders book.new) (B.capacity book.new)) tape.old day.old.used tape.new }
+    ensures came { (g : Settings) → Came (close_of (view g day.old (B.orders book.old) (B.capacity book.old)) (length tape.old)) result (view g day.new (B.orders book.new) (B.capacity book.new)) tape.old day.old.used tape.new }
 {
     if !all_fit(book, day, tape.len()) {
         return Err(Refusal::TapeFull);

@@ -1,6 +1,6 @@
 -- One fill carried out leaves the other fills of an order as they were.
 use Rattle.std.proofs.Common.{◌≡◌, ℕ, ◌+◌, ◌-◌, ◌<◌, ◌≤◌, min, Bool, true, false, cond, not, ◌&&◌, ◌||◌, eqb, leb, List, [], ◌∷◌, map, length, drop, set, sym, refl, ap, ◌∙◌, subst, arith, length-set}
-use Rattle.std.specs.List.{ContainsAt as Has, AllByRecursion as All}
+use Rattle.std.specs.List.{ContainsAt as Has, AllByRecursion}
 use Rattle.std.proofs.ByRecursion.{all-has}
 use Rattle.std.proofs.lemmas.Bool.{cond_both, cond-true, cond-false, eq-eqb, ne_eqb, leb-false, or_left, or_from, not_from_true}
 use Rattle.std.proofs.lemmas.Bool.Decides.{nat_tests}
@@ -64,7 +64,7 @@ module _ (g : Settings) (s : Side) (os : List Order) (d : Distinct os) (from k :
   first_active = sym passed ∙ f.onward
 
   first_has : Has os o
-  first_has = (subst (All (Has os)) first_active (actives_has g s os)).0
+  first_has = (subst (AllByRecursion (Has os)) first_active (actives_has g s os)).0
 
   -- the active orders once that order was lowered
   then_active : (q : ℕ) → actives g (ranked s (lower o.number q os)) ≡ lower o.number q (o ∷ actives g (drop (k + 1) (ranked s os)))

@@ -1,6 +1,6 @@
 -- What a lowering leaves of a list of standing orders.
 use Rattle.std.proofs.Common.{◌≡◌, ℕ, suc, ◌+◌, ◌-◌, ◌<◌, cond, eqb, leb, List, [], ◌∷◌, length, sym, refl, ap, ◌∙◌, subst, ⊎_elim, arith}
-use Rattle.std.specs.List.{ContainsAt as Has, AllByRecursion as All}
+use Rattle.std.specs.List.{ContainsAt as Has, AllByRecursion}
 use Rattle.std.proofs.lemmas.Bool.{cond_both, eq-eqb, ne_eqb, eqb-true}
 use Rattle.std.proofs.ByRecursion.{all-has, all_kept_by, all_has_itself}
 use Rattle.model.specs.declared.types.Order.{Order}
@@ -14,7 +14,7 @@ use Rattle.model.proofs.Standing.{standing_above}
 use Rattle.walking.specs.Walks.{actives}
 
 -- the active orders of a side in rank are some of the orders, with distinct numbers
-pub actives_has : (g : Settings) (s : Side) (os : List Order) → All (Has os) (actives g (ranked s os))
+pub actives_has : (g : Settings) (s : Side) (os : List Order) → AllByRecursion (Has os) (actives g (ranked s os))
 actives_has g s os = all_kept_by (λ o. active g o.price) (Has os) (ranked s os) (all_ranked (Has os) s os (all_kept_by (of_side s) (Has os) os (all_has_itself os)))
 
 pub actives_distinct : (g : Settings) (s : Side) (os : List Order) → Distinct os → Distinct (actives g (ranked s os))

@@ -1,6 +1,6 @@
 -- A plan that goes over the active orders in rank says what their meeting does.
 use Rattle.std.proofs.Common.{◌≡◌, ℕ, ◌+◌, ◌-◌, ◌<◌, ◌≤◌, min, Bool, true, false, cond, not, ◌||◌, eqb, leb, List, [], ◌∷◌, length, drop, sym, refl, ap, ◌∙◌, subst, arith}
-use Rattle.std.specs.List.{ContainsAt as Has, AllByRecursion as All}
+use Rattle.std.specs.List.{ContainsAt as Has, AllByRecursion}
 use Rattle.std.proofs.lemmas.Bool.{cond-true, cond-false, eq-eqb, or_left, or_right, or_from, ne_eqb, not_from_true, not_from_false}
 use Rattle.std.proofs.lemmas.Bool.Decides.{nat_tests}
 use Rattle.model.specs.declared.types.Order.{Order}
@@ -55,7 +55,7 @@ module _ (in_band : ℕ → Bool) (s : Side) (p : OrderPrice) where
       (λ _. let i = agrees os (with_fill t o) refl in record { fills = omega (arith, i.fills); remaining = i.remaining; interrupted = i.interrupted; last = i.last })
       (λ _. record { fills = omega arith; remaining = refl; interrupted = refl; last = refl }))
 
-  removes : (lo hi : ℕ) (xs os : List Order) (t : Plan) → Standing lo os hi → All (Has os) xs → Distinct xs → (onward in_band s p xs t).removed + length (after_fills (meet in_band s p t.remaining xs).fills os) ≡ t.removed + length os
+  removes : (lo hi : ℕ) (xs os : List Order) (t : Plan) → Standing lo os hi → AllByRecursion (Has os) xs → Distinct xs → (onward in_band s p xs t).removed + length (after_fills (meet in_band s p t.remaining xs).fills os) ≡ t.removed + length os
   removes lo hi [] os t st h d = refl
   removes lo hi (x ∷ xs) os t st h d =
       let q : ℕ = min t.remaining x.left in
@@ -72,7 +72,7 @@ module _ (in_band : ℕ → Bool) (s : Side) (p : OrderPrice) where
       omega arith)
       (λ _. refl))
     where
-      go : (q : ℕ) (ys : List Order) → All (Has os) ys → All (λ y. x.number ≡ y.number → ⊥) ys → All (Has (lower x.number q os)) ys
+      go : (q : ℕ) (ys : List Order) → AllByRecursion (Has os) ys → AllByRecursion (λ y. x.number ≡ y.number → ⊥) ys → AllByRecursion (Has (lower x.number q os)) ys
       go q [] a b = tt
       go q (y ∷ ys) a b = (has_lower x.number q os y a.0 b.0, go q ys a.1 b.1)
 

@@ -1,6 +1,6 @@
 ghost use Rattle.std.specs.Prelude.{◌≡◌, ◌+◌, ◌-◌, ◌<◌, ◌≤◌, min, ◌&&◌, map, length, if◌then◌else◌, slice_set};
 ghost use Rattle.model.specs.Curve.{allows};
-ghost use Rattle.model.specs.Grid.{within as is_Within};
+ghost use Rattle.model.specs.Grid.{within as is_within};
 ghost use Rattle.model.specs.Orders.{find, lower};
 ghost use Rattle.model.specs.Records.{written};
 ghost use Rattle.model.specs.Trading.{after_fills, trade_of};
@@ -34,7 +34,7 @@ struct Progress {
 
 // Whether an order trades with a standing one at this price.
 fn trades_at(settings: &Settings, reference: u32, order: Incoming, price: u32) -> bool
-    ensures { result ≡ (allows order.side order.price price && is_Within (plain_settings settings.now).static reference price) }
+    ensures { result ≡ (allows order.side order.price price && is_within (plain_settings settings.now).static reference price) }
 {
     order.price.allows(order.side, price) && within(settings.static_band, reference, price)
 }

@@ -1,6 +1,6 @@
 -- How a lawful rule chooses: a call finds the first grid price at which the most trades, or none where nothing trades.
 use Rattle.std.proofs.Common.{◌≡◌, ℕ, Bool, true, false, not, ◌&&◌, ◌||◌, ltb, List, [], ◌∷◌, Some, None, Option, sym, refl, subst, ⊎_elim, arith}
-use Rattle.std.specs.List.{ContainsAt as Has, AllByRecursion as All}
+use Rattle.std.specs.List.{ContainsAt as Has, AllByRecursion}
 use Rattle.std.proofs.ByRecursion.{all-has, All-weaker}
 use Rattle.std.proofs.lemmas.Bool.{and_left, and_right, cases_Bool, cond_both, false≢true, ltb-false, not_from_false, not_from_true, not-true, or_from, or_parts}
 use Rattle.std.proofs.lemmas.Bool.Decides.{nat_tests}
@@ -39,17 +39,17 @@ pub least_surplus_lawful : (r : Rule) → Lawful r → Lawful (least_surplus r)
 least_surplus_lawful r law = over_lawful (λ a b. ltb (surplus a) (surplus b)) (λ a b h. grind (arith, nat_tests)) (λ a b c h. grind (arith, nat_tests)) r law
 
 -- a test that no element passes
-pub any_false : {X : Type 0} (p : X → Bool) (xs : List X) → any p xs ≡ false → All (λ x. p x ≡ false) xs
+pub any_false : {X : Type 0} (p : X → Bool) (xs : List X) → any p xs ≡ false → AllByRecursion (λ x. p x ≡ false) xs
 any_false p [] h = tt
 any_false p (x ∷ xs) h = let r = or_parts (p x) (any p xs) h in (r.0, any_false p xs r.1)
 
-pub false_any : {X : Type 0} (p : X → Bool) (xs : List X) → All (λ x. p x ≡ false) xs → any p xs ≡ false
+pub false_any : {X : Type 0} (p : X → Bool) (xs : List X) → AllByRecursion (λ x. p x ≡ false) xs → any p xs ≡ false
 false_any p [] h = refl
 false_any p (x ∷ xs) h = or_from (p x) (any p xs) h.0 (false_any p xs h.1)
 
 -- no point of ps goes ahead of x
 abbrev pub Unbeaten : Rule → List Point → Point → Type 0
-Unbeaten r ps x = All (λ y. r.ahead y x ≡ false) ps
+Unbeaten r ps x = AllByRecursion (λ y. r.ahead y x ≡ false) ps
 
 -- the best points are the members that no point goes ahead of
 pub best_has : (r : Rule) (ps : List Point) (x : Point) → Has (best r ps) x → Has ps x × Unbeaten r ps x
@@ -90,10 +90,10 @@ pick_has target p (q ∷ qs) =
     (λ _. has_there p (q ∷ qs) (pick target q qs) (pick_has target q qs))
     (λ _. ⊎_elim (λ e. subst (Has (p ∷ q ∷ qs)) e (has_here p (q ∷ qs))) (λ k. has_there p (q ∷ qs) (pick target p qs) (has_there q qs (pick target p qs) k)) (has_cases p qs (pick target p qs) (pick_has target p qs)))
 
-pick_nearest : (target : ℕ) (p : Point) (qs : List Point) → All (λ y. nearer target y (pick target p qs) ≡ false) (p ∷ qs)
+pick_nearest : (target : ℕ) (p : Point) (qs : List Point) → AllByRecursion (λ y. nearer target y (pick target p qs) ≡ false) (p ∷ qs)
 pick_nearest target p [] = (nearer_self target p, tt)
 pick_nearest target p (q ∷ qs) =
-    cond_both (nearer target q p) q p (λ w. All (λ y. nearer target y (pick target w qs) ≡ false) (p ∷ q ∷ qs))
+    cond_both (nearer target q p) q p (λ w. AllByRecursion (λ y. nearer target y (pick target w qs) ≡ false) (p ∷ q ∷ qs))
     (λ e. let r = pick_nearest target q qs in (nearer_trans target p q (pick target q qs) (nearer_asym target q p e) r.0, r))
     (λ e. let r = pick_nearest target p qs in (r.0, (nearer_trans target q p (pick target p qs) e r.0, r.1)))
 
@@ -101,14 +101,14 @@ pick_nearest target p (q ∷ qs) =
 pub record Chosen (r : Rule) (i : ℕ) (ps : List Point) (x : Point) : Type 0 where
   pub member : Has ps x
   pub unbeaten : Unbeaten r ps x
-  pub first : All (λ y. (r.ahead y x || (not (r.ahead x y) && nearer (target_in r i ps) y x)) ≡ false) ps
+  pub first : AllByRecursion (λ y. (r.ahead y x || (not (r.ahead x y) && nearer (target_in r i ps) y x)) ≡ false) ps
 
-chosen_top : (r : Rule) (i : ℕ) (tops : List Point) (x : Point) → choose r i tops ≡ Some x → Has tops x × All (λ y. nearer (target_among r i tops) y x ≡ false) tops
+chosen_top : (r : Rule) (i : ℕ) (tops : List Point) (x : Point) → choose r i tops ≡ Some x → Has tops x × AllByRecursion (λ y. nearer (target_among r i tops) y x ≡ false) tops
 chosen_top r i [] x h = absurd (let z : ◌≡◌ {A = ℕ} 0 1 = cc in omega arith)
 chosen_top r i (p ∷ qs) x h =
     let target : ℕ = target_among r i (p ∷ qs) in
     let e : pick target p qs ≡ x = cc in
-    subst (λ w. Has (p ∷ qs) w × All (λ y. nearer target y w ≡ false) (p ∷ qs)) e (pick_has target p qs, pick_nearest target p qs)
+    subst (λ w. Has (p ∷ qs) w × AllByRecursion (λ y. nearer target y w ≡ false) (p ∷ qs)) e (pick_has target p qs, pick_nearest target p qs)
 
 pub called_chosen : (r : Rule) → Lawful r → (i : ℕ) (ps : List Point) (x : Point) → called r i ps ≡ Some x → Chosen r i ps x
 called_chosen r law i ps x h =

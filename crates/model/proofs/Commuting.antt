@@ -1,6 +1,6 @@
 -- To lower an order and to rank, to filter or to drop the first orders may change places.
 use Rattle.std.proofs.Common.{◌≡◌, ℕ, zero, suc, ◌-◌, Bool, true, false, cond, eqb, leb, List, [], ◌∷◌, drop, filter, sym, refl, ap, ◌∙◌, subst, ⊎_elim}
-use Rattle.std.specs.List.{ContainsAt as Has, AllByRecursion as All}
+use Rattle.std.specs.List.{ContainsAt as Has, AllByRecursion}
 use Rattle.std.proofs.lemmas.Bool.{cond_both, cond-true, cond-false, cases_Bool, both_ways, eq-eqb, eqb-true, ne_eqb}
 use Rattle.std.proofs.ByRecursion.{all-has, All-weaker, all_kept_by, all_has_itself, All-drop}
 use Rattle.model.specs.Types.{Side, Order}
@@ -29,13 +29,13 @@ lower_first q o xs = cond-true (eqb o.number o.number) _ _ (eq-eqb o.number o.nu
 
 -- no order has the number n
 abbrev pub Lacks : ℕ → List Order → Type 0
-Lacks n xs = All (λ x. n ≡ x.number → ⊥) xs
+Lacks n xs = AllByRecursion (λ x. n ≡ x.number → ⊥) xs
 
 pub lower_missing : (n q : ℕ) (xs : List Order) → Lacks n xs → lower n q xs ≡ xs
 lower_missing n q [] h = refl
 lower_missing n q (x ∷ xs) h = other n q x xs (ne_eqb x.number n (λ e. h.0 (sym e))) ∙ ap (λ l. x ∷ l) (lower_missing n q xs h.1)
 
-lacks : (n : ℕ) (o : Order) (xs : List Order) → eqb o.number n ≡ true → All (λ x. o.number ≡ x.number → ⊥) xs → Lacks n xs
+lacks : (n : ℕ) (o : Order) (xs : List Order) → eqb o.number n ≡ true → AllByRecursion (λ x. o.number ≡ x.number → ⊥) xs → Lacks n xs
 lacks n o xs e h = subst (λ m. Lacks m xs) (eqb-true o.number n e) h
 
 -- past a filter that does not look at what is left
@@ -56,12 +56,12 @@ module _ (f : Order → Bool) (steady : (o : Order) (q : ℕ) → f (with_left o
       cond_pair (f o) (o ∷ filter f (lower n q os)) (filter f (lower n q os)) (o ∷ ks) ks (λ l m. l ≡ lower n q m) (λ _. ap (λ l. o ∷ l) i ∙ sym (other n q o ks e)) (λ _. i))
 
 -- past an insertion
-insert_first : (s : Side) (o : Order) (xs : List Order) → All (λ x. before s o x ≡ true) xs → insert s o xs ≡ o ∷ xs
+insert_first : (s : Side) (o : Order) (xs : List Order) → AllByRecursion (λ x. before s o x ≡ true) xs → insert s o xs ≡ o ∷ xs
 insert_first s o [] h = refl
 insert_first s o (x ∷ xs) h = cond-true (before s o x) (o ∷ x ∷ xs) (x ∷ insert s o xs) h.0
 
 -- what comes before the first of some ranked orders comes before the others
-before_all : (s : Side) (o x : Order) (xs : List Order) → before s o x ≡ true → All (λ y. before s y x ≡ false) xs → All (λ y. before s o y ≡ true) xs
+before_all : (s : Side) (o x : Order) (xs : List Order) → before s o x ≡ true → AllByRecursion (λ y. before s y x ≡ false) xs → AllByRecursion (λ y. before s o y ≡ true) xs
 before_all s o x xs t h = All-weaker (λ y. before s y x ≡ false) (λ y. before s o y ≡ true) (λ y k. ⊎_elim (λ v. v) (λ v. absurd (both_ways (before s y x) k (before_split s o y x t v))) (cases_Bool (before s o y))) xs h
 
 cond_cons : (c : Bool) (x : Order) (ys zs : List Order) → x ∷ cond c ys zs ≡ cond c (x ∷ ys) (x ∷ zs)

@@ -1,6 +1,6 @@
 -- An order that meets the standing orders: what its fills take of it and of them, and where it stops.
 use Rattle.std.proofs.Common.{◌≡◌, ℕ, ◌+◌, ◌-◌, ◌<◌, ◌≤◌, min, Bool, true, false, cond, not, ◌||◌, eqb, ◌⊎◌, List, [], ◌∷◌, map, filter, refl, inl, inr, arith}
-use Rattle.std.specs.List.{AllByRecursion as All}
+use Rattle.std.specs.List.{AllByRecursion}
 use Rattle.std.proofs.ByRecursion.{all-has, All-weaker}
 use Rattle.std.proofs.lemmas.Bool.{both_ways, cond_both, cond-true, eq-eqb, eqb-true, le-leb, leb-false, leb-true, lt-leb, ne_eqb, not-true, or_cases, or_left, or_right}
 use Rattle.model.specs.Types.{Side, Buy, Sell, OrderPrice, Market, Limit, Order}
@@ -122,9 +122,9 @@ done_more : (s : Side) (p : OrderPrice) (f : Fill) (fs : List Fill) (r : Order) 
 done_more s p f fs r (inl l) = inl (omega arith)
 done_more s p f fs r (inr e) = inr e
 
-pub meet_done : (in_band : ℕ → Bool) (s : Side) (p : OrderPrice) (remaining : ℕ) (rs : List Order) → All (λ r. is_market r.price ≡ false) rs
+pub meet_done : (in_band : ℕ → Bool) (s : Side) (p : OrderPrice) (remaining : ℕ) (rs : List Order) → AllByRecursion (λ r. is_market r.price ≡ false) rs
     → Pairwise (λ x y. Wider (opposite s) x.price y.price) rs → (meet in_band s p remaining rs).interrupted ≡ false → 0 < (meet in_band s p remaining rs).remaining
-    → All (Done s p (meet in_band s p remaining rs).fills) rs
+    → AllByRecursion (Done s p (meet in_band s p remaining rs).fills) rs
 meet_done in_band s p remaining [] lim up i l = tt
 meet_done in_band s p remaining (r ∷ rs) lim up i l =
     cond_both (eqb remaining 0 || not (allows s p (limit r.price))) (met [] remaining false) (cond (in_band (limit r.price)) (add_fill f m) (met [] remaining true)) Fine
@@ -144,25 +144,25 @@ meet_done in_band s p remaining (r ∷ rs) lim up i l =
     m = meet in_band s p (remaining - min remaining r.left) rs
 
     Fine : Met → Type 0
-    Fine x = x.interrupted ≡ false → 0 < x.remaining → All (Done s p x.fills) (r ∷ rs)
+    Fine x = x.interrupted ≡ false → 0 < x.remaining → AllByRecursion (Done s p x.fills) (r ∷ rs)
 
-    refused : (eqb remaining 0 ≡ true) ⊎ (not (allows s p (limit r.price)) ≡ true) → 0 < remaining → All (Done s p []) (r ∷ rs)
+    refused : (eqb remaining 0 ≡ true) ⊎ (not (allows s p (limit r.price)) ≡ true) → 0 < remaining → AllByRecursion (Done s p []) (r ∷ rs)
     refused (inl z) l = absurd (omega (arith, eqb-true remaining 0 z))
     refused (inr n) l =
         let no : allows s p (limit r.price) ≡ false = not-true (allows s p (limit r.price)) n in
         (inr no, all_from_has (Done s p []) rs (λ x k. inr (later_not_allowed s p r.price x.price lim.0 (all-has (λ r. is_market r.price ≡ false) rs x lim.1 k) (all-has (λ y. Wider (opposite s) r.price y.price) rs x up.0 k) no)))
 
 -- an order that is entered meets orders of the list that it is given
-pub meet_against : (P : ℕ → Type 0) (in_band : ℕ → Bool) (s : Side) (p : OrderPrice) (remaining : ℕ) (os : List Order) → All (λ o. P o.number) os
-    → All (λ f. P f.against) (meet in_band s p remaining os).fills
+pub meet_against : (P : ℕ → Type 0) (in_band : ℕ → Bool) (s : Side) (p : OrderPrice) (remaining : ℕ) (os : List Order) → AllByRecursion (λ o. P o.number) os
+    → AllByRecursion (λ f. P f.against) (meet in_band s p remaining os).fills
 meet_against P in_band s p remaining [] h = tt
 meet_against P in_band s p remaining (o ∷ os) h =
     let i = meet_against P in_band s p (remaining - min remaining o.left) os h.1 in
-    let R : Met → Type 0 = λ m. All (λ f. P f.against) m.fills in
+    let R : Met → Type 0 = λ m. AllByRecursion (λ f. P f.against) m.fills in
     cond_both (eqb remaining 0 || not (allows s p (limit o.price))) _ _ R (λ _. tt)
     (λ _. cond_both (in_band (limit o.price)) _ _ R (λ _. (h.0, i)) (λ _. tt))
 
-pub fills_apart : (s : Side) (n : ℕ) (fs : List Fill) → All (λ f. f.against < n) fs → All TwoParties (map (trade_of s n) fs)
+pub fills_apart : (s : Side) (n : ℕ) (fs : List Fill) → AllByRecursion (λ f. f.against < n) fs → AllByRecursion TwoParties (map (trade_of s n) fs)
 fills_apart s n [] h = tt
 fills_apart Buy n (f ∷ fs) h = ((λ e. omega arith), fills_apart Buy n fs h.1)
 fills_apart Sell n (f ∷ fs) h = ((λ e. omega arith), fills_apart Sell n fs h.1)

@@ -1,6 +1,6 @@
 -- Pairing buys with sells in rank: what is traded of each order, and of all.
 use Rattle.std.proofs.Common.{◌≡◌, ℕ, ◌+◌, ◌-◌, ◌<◌, ◌≤◌, min, Bool, true, false, cond, eqb, ltb, ◌⊎◌, List, [], ◌∷◌, ◌++◌, sym, refl, ap, ◌∙◌, subst, ap₂, inl, inr, ⊎_elim, zero-add, arith}
-use Rattle.std.specs.List.{AllByRecursion as All}
+use Rattle.std.specs.List.{AllByRecursion}
 use Rattle.std.proofs.lemmas.Bool.{cases_lt, cond_both, eqb-true, ltb-false, ltb-true}
 use Rattle.model.specs.Types.{Order, TapeRecord, Trade}
 use Rattle.model.specs.Orders.{with_left, left_in}
@@ -12,7 +12,7 @@ use Rattle.model.proofs.Records.{bought, sold, bought_append, sold_append, quant
 
 -- of each order something is left
 abbrev pub Alive : List Order → Type 0
-Alive os = All (λ o. 1 ≤ o.left) os
+Alive os = AllByRecursion (λ o. 1 ≤ o.left) os
 
 cond_add : (b : Bool) (x y z : ℕ) → x + y ≡ z → cond b x 0 + cond b y 0 ≡ cond b z 0
 cond_add true x y z e = e

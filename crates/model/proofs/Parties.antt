@@ -1,6 +1,6 @@
 -- No order is both the buy and the sell of a trade.
 use Rattle.std.proofs.Common.{ℕ, zero, suc, ◌+◌, ◌<◌, ◌≤◌, Bool, eqb, List, [], ◌∷◌, map, filter, arith}
-use Rattle.std.specs.List.{AllByRecursion as All}
+use Rattle.std.specs.List.{AllByRecursion}
 use Rattle.std.proofs.ByRecursion.{All-append, all_kept_by, All-weaker}
 use Rattle.std.proofs.lemmas.Bool.{cond_both}
 use Rattle.model.specs.Types.{Side, Condition, Plain, FillOrKill, ImmediateOrCancel, Entry, Order, Phase, AfterAuction, AtClose, TapeRecord, Call, Enter, Withdraw, BeginRandom, Auction, Close}
@@ -25,10 +25,10 @@ use Rattle.model.proofs.Sound.{unless_both, enter_cases, auction_cases, Sound}
 
 -- the records of an outcome
 abbrev Apart : Outcome → Type 0
-Apart o = All TwoParties o.records
+Apart o = AllByRecursion TwoParties o.records
 
 module _ (s : State) (h : Sound s) (e : Entry) where
-  settle_apart : (ph : Phase) (ts : List TapeRecord) (os : List Order) (q : ℕ) (r : Disposition) → All TwoParties ts → Apart (settle_remaining s e ph ts os q r)
+  settle_apart : (ph : Phase) (ts : List TapeRecord) (os : List Order) (q : ℕ) (r : Disposition) → AllByRecursion TwoParties ts → Apart (settle_remaining s e ph ts os q r)
   settle_apart ph ts os zero r k = k
   settle_apart ph ts os (suc q) (stands p) k = k
   settle_apart ph ts os (suc q) (goes reason) k = All-append TwoParties ts (gone s (suc q) reason ∷ []) k (tt, tt)
@@ -64,7 +64,7 @@ module _ (s : State) (h : Sound s) (e : Entry) where
       (λ _. tt))
 
 -- so of every call
-pub step_apart : (r : Rule) (tape scratch : ℕ) (s : State) → Sound s → (c : Call) → All TwoParties (step r tape scratch s c).records
+pub step_apart : (r : Rule) (tape scratch : ℕ) (s : State) → Sound s → (c : Call) → AllByRecursion TwoParties (step r tape scratch s c).records
 step_apart r tape scratch s h (Enter e) = enter_apart s h e tape
 step_apart r tape scratch s h (Withdraw m n) = unless_both Apart _ s (withdrawn s n) (λ _. tt) (λ _. (tt, tt))
 step_apart r tape scratch s h BeginRandom = unless_both Apart _ s (begun s) (λ _. tt) (λ _. tt)

@@ -1,6 +1,6 @@
 -- Price-time priority: where an order trades in an auction, every active order of its side that ranks before it trades whole.
 use Rattle.std.proofs.Common.{◌≡◌, ℕ, ◌<◌, ◌≤◌, true, ◌&&◌, ◌||◌, eqb, ltb, ◌⊎◌, List, [], ◌∷◌, map, filter, sym, refl, subst, inl, inr, ⊎_elim, arith}
-use Rattle.std.specs.List.{ContainsAt as Has, AllByRecursion as All}
+use Rattle.std.specs.List.{ContainsAt as Has, AllByRecursion}
 use Rattle.std.proofs.ByRecursion.{all-has}
 use Rattle.std.proofs.lemmas.Bool.{and_parts, both_ways, cases_Bool, cases_lt, cond-false, eqb-true, false≢true, or_from}
 use Rattle.model.specs.Types.{Side, Buy, Sell, Order, AfterAuction, TapeRecord, Trade, Withdrawal, Call, Enter, Withdraw, BeginRandom, Auction, Close}
@@ -35,7 +35,7 @@ ranked_pair s R xs h k x y a b e =
     (pairwise_has (λ u v. (before s u v ≡ true) × R u v) xs (pairwise_both (λ u v. before s u v ≡ true) R xs h k) x y a b)
 
 -- a number that trades is that of a party
-traded_party : (p : ℕ) (P Q : ℕ → Type 0) (n : ℕ) (ts : List TapeRecord) → All (Between p P Q) ts → 0 < total_traded n ts → P n ⊎ Q n
+traded_party : (p : ℕ) (P Q : ℕ → Type 0) (n : ℕ) (ts : List TapeRecord) → AllByRecursion (Between p P Q) ts → 0 < total_traded n ts → P n ⊎ Q n
 traded_party p P Q n [] h l = absurd (omega arith)
 traded_party p P Q n (Trade b s x q ∷ ts) h l =
     ⊎_elim (λ e. inl (subst P (eqb-true b n e) h.0.1))

@@ -1,6 +1,6 @@
 -- The whole promise: every list of calls keeps the laws, from any session that is made.
 use Rattle.std.proofs.Common.{◌≡◌, ℕ, ◌%◌, ◌≤◌, true, ◌&&◌, eqb, leb, List, [], ◌∷◌, refl, arith}
-use Rattle.std.specs.List.{AllByRecursion as All}
+use Rattle.std.specs.List.{AllByRecursion}
 use Rattle.std.proofs.ByRecursion.{All-append}
 use Rattle.std.proofs.lemmas.Bool.{and_parts, eqb-true, false≢true, leb-true}
 use Rattle.model.specs.Types.{Order, SettingsOutOfRange, IndicativePrice, BookNotEmpty, Call}
@@ -28,13 +28,13 @@ module _ (r : Rule) (law : Lawful r) (tape scratch : ℕ) where
   run_each L each s h [] = tt
   run_each L each s h (c ∷ cs) = (each s h c, run_each L each (step r tape scratch s c).state (step_sound r tape scratch s h c) cs)
 
-  run_trading : (s : State) → Sound s → while_trading s.phase s → (cs : List Call) → All (λ o. while_trading o.state.phase o.state) (run r tape scratch s cs)
+  run_trading : (s : State) → Sound s → while_trading s.phase s → (cs : List Call) → AllByRecursion (λ o. while_trading o.state.phase o.state) (run r tape scratch s cs)
   run_trading s h t [] = tt
   run_trading s h t (c ∷ cs) =
       let k = step_uncrossed s h t r law tape scratch c in
       (k, run_trading (step r tape scratch s c).state (step_sound r tape scratch s h c) k cs)
 
-  run_parties : (s : State) → Sound s → (cs : List Call) → All TwoParties (records (run r tape scratch s cs))
+  run_parties : (s : State) → Sound s → (cs : List Call) → AllByRecursion TwoParties (records (run r tape scratch s cs))
   run_parties s h [] = tt
   run_parties s h (c ∷ cs) =
       let o : Outcome = step r tape scratch s c in

@@ -1,6 +1,6 @@
 -- What some records show traded, withdrawn, bought and sold of an order, and in all.
 use Rattle.std.proofs.Common.{◌≡◌, ℕ, ◌+◌, ◌≤◌, Bool, true, false, cond, ◌||◌, eqb, List, [], ◌∷◌, ◌++◌, map, sym, refl, ap, ◌∙◌, arith}
-use Rattle.std.specs.List.{AllByRecursion as All}
+use Rattle.std.specs.List.{AllByRecursion}
 use Rattle.std.proofs.lemmas.Bool.{eqb-true}
 use Rattle.model.specs.Types.{Order, Reason, TapeRecord, Trade, Withdrawal}
 use Rattle.model.specs.Orders.{left_in, withdrawal}
@@ -98,6 +98,6 @@ trade_of_two b s q n h = go (eqb b n) refl (eqb s n) refl
     go false e true f = omega arith
     go false e false f = omega arith
 
-pub withdrawals_apart : (reason : Reason) (os : List Order) → All TwoParties (map (withdrawal reason) os)
+pub withdrawals_apart : (reason : Reason) (os : List Order) → AllByRecursion TwoParties (map (withdrawal reason) os)
 withdrawals_apart reason [] = tt
 withdrawals_apart reason (o ∷ os) = (tt, withdrawals_apart reason os)

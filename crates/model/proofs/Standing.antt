@@ -1,6 +1,6 @@
 -- What each operation keeps of a list of standing orders.
 use Rattle.std.proofs.Common.{◌≡◌, ℕ, ◌+◌, ◌-◌, ◌<◌, ◌≤◌, Bool, true, false, cond, not, eqb, leb, List, [], ◌∷◌, ◌++◌, map, filter, refl, subst, arith}
-use Rattle.std.specs.List.{AllByRecursion as All}
+use Rattle.std.specs.List.{AllByRecursion}
 use Rattle.std.proofs.ByRecursion.{All-weaker}
 use Rattle.std.proofs.lemmas.Bool.{cond_both, cond-false, cond-true, eq-eqb, eqb-false, eqb-true, leb-false, leb-true, ne_eqb}
 use Rattle.model.specs.Types.{Order}
@@ -127,15 +127,15 @@ left_map f s n (o ∷ os) =
     rw ((s o).0, (s o).1) (omega arith)
 
 -- the parts of it, order by order
-pub standing_above : (lo hi : ℕ) (os : List Order) → Standing lo os hi → All (λ o. lo < o.number) os
+pub standing_above : (lo hi : ℕ) (os : List Order) → Standing lo os hi → AllByRecursion (λ o. lo < o.number) os
 standing_above lo hi [] h = tt
 standing_above lo hi (o ∷ os) h = (h.0, All-weaker (λ x. o.number < x.number) (λ x. lo < x.number) (λ x k. omega arith) os (standing_above o.number hi os h.2))
 
-pub standing_upto : (lo hi : ℕ) (os : List Order) → Standing lo os hi → All (λ o. o.number ≤ hi) os
+pub standing_upto : (lo hi : ℕ) (os : List Order) → Standing lo os hi → AllByRecursion (λ o. o.number ≤ hi) os
 standing_upto lo hi [] h = tt
 standing_upto lo hi (o ∷ os) h = (standing_bounds o.number hi os h.2, standing_upto o.number hi os h.2)
 
-pub standing_alive : (lo hi : ℕ) (os : List Order) → Standing lo os hi → All (λ o. 1 ≤ o.left) os
+pub standing_alive : (lo hi : ℕ) (os : List Order) → Standing lo os hi → AllByRecursion (λ o. 1 ≤ o.left) os
 standing_alive lo hi [] h = tt
 standing_alive lo hi (o ∷ os) h = (h.1, standing_alive o.number hi os h.2)
 

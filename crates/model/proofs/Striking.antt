@@ -1,6 +1,6 @@
 -- A strike at a price that trades the most leaves no crossing orders, and neither does a call that finds no price.
 use Rattle.std.proofs.Common.{◌≡◌, ℕ, ◌<◌, ◌≤◌, min, Bool, true, false, not, ◌⊎◌, List, filter, refl, ◌∙◌, subst, inl, inr, arith}
-use Rattle.std.specs.List.{ContainsAt as Has, AllByRecursion as All}
+use Rattle.std.specs.List.{ContainsAt as Has, AllByRecursion}
 use Rattle.std.proofs.ByRecursion.{all-has, all_kept_by, All-map, All-weaker}
 use Rattle.std.proofs.lemmas.Bool.{both_ways, cases_Bool, cases_lt, le-leb, not-true}
 use Rattle.model.specs.Types.{Side, Buy, Sell, OrderPrice, Market, Limit, Order, TapeRecord}
@@ -45,7 +45,7 @@ settled_limit : (p : ℕ) (c : OrderPrice) → is_market (settled_price p c) ≡
 settled_limit p Market = refl
 settled_limit p (Limit l) = refl
 
-struck_unfilled : (p lo hi : ℕ) (ts : List TapeRecord) (os : List Order) → Standing lo os hi → All (Unfilled p ts os) (struck_orders p ts os)
+struck_unfilled : (p lo hi : ℕ) (ts : List TapeRecord) (os : List Order) → Standing lo os hi → AllByRecursion (Unfilled p ts os) (struck_orders p ts os)
 struck_unfilled p lo hi ts os st =
     All-map (Unfilled p ts os) (settled p) (filter (λ o. not (idle ts o)) ms)
     (all_kept_by (λ o. not (idle ts o)) (λ y. Unfilled p ts os (settled p y)) ms
@@ -67,7 +67,7 @@ module _ (g : Settings) (os : List Order) (lo hi p v : ℕ) (st : Standing lo os
   abbrev ts : List TapeRecord
   ts = trades_at g p v os
 
-  alive : (s : Side) → All (λ o. 1 ≤ o.left) (at_price g s p os)
+  alive : (s : Side) → AllByRecursion (λ o. 1 ≤ o.left) (at_price g s p os)
   alive s = all_at_price g s p os (λ o. 1 ≤ o.left) (standing_alive lo hi os st)
 
   -- each side gives v to the strike, the first in rank first
@@ -134,7 +134,7 @@ module _ (g : Settings) (os : List Order) (lo hi p v : ℕ) (st : Standing lo os
         rw (k.price, l.price) (go k.was l.was rx ry (rw k.price at ax) (rw l.price at ay) lesser (cases_lt (after k.was) (after l.was)));
   }
     where
-      left : All (Unfilled p ts os) (struck_orders p ts os)
+      left : AllByRecursion (Unfilled p ts os) (struck_orders p ts os)
       left = struck_unfilled p lo hi ts os st
 
       after : Order → ℕ

@@ -1,6 +1,6 @@
 -- The standing orders after an auction's trades, and what its records account for.
 use Rattle.std.proofs.Common.{◌≡◌, ℕ, ◌+◌, ◌-◌, ◌≤◌, Bool, true, false, cond, not, ◌&&◌, ◌||◌, eqb, leb, ◌⊎◌, List, [], ◌∷◌, map, filter, sym, refl, ap, ◌∙◌, subst, inl, inr, ⊎_elim, arith}
-use Rattle.std.specs.List.{AllByRecursion as All}
+use Rattle.std.specs.List.{AllByRecursion}
 use Rattle.std.proofs.lemmas.Bool.{and_parts, cases_eq, cond_both, eq-eqb, eqb-true, false≢true, leb-true, or_left, or_right}
 use Rattle.model.specs.Types.{Buy, Sell, OrderPrice, Order, AfterAuction, TapeRecord, Trade, Withdrawal}
 use Rattle.model.specs.Grid.{Settings}
@@ -20,7 +20,7 @@ module _ (lo hi : ℕ) where
   trades_standing (Trade b s p q ∷ ts) os h = trades_standing ts (lower s q (lower b q os)) (lower_standing lo hi s q (lower b q os) (lower_standing lo hi b q os h))
   trades_standing (Withdrawal n q r ∷ ts) os h = trades_standing ts os h
 
-  pub trades_left : (ts : List TapeRecord) (os : List Order) → Standing lo os hi → All TwoParties ts → ((n : ℕ) → total_traded n ts ≤ left_in os n) → (n : ℕ)
+  pub trades_left : (ts : List TapeRecord) (os : List Order) → Standing lo os hi → AllByRecursion TwoParties ts → ((n : ℕ) → total_traded n ts ≤ left_in os n) → (n : ℕ)
       → left_in (apply_trades ts os) n + total_traded n ts ≡ left_in os n
   trades_left [] os h a lim n = omega arith
   trades_left (Trade b s p q ∷ ts) os h a lim n =
@@ -124,7 +124,7 @@ settled_same : (p : ℕ) → SameOrder (settled p)
 settled_same p o = cond_both (is_market o.price) _ _ (λ (x : Order). (x.number ≡ o.number) × (x.left ≡ o.left)) (λ _. (refl, refl)) (λ _. (refl, refl))
 
 -- any trades between different orders, within what is left: what stands and what the records show is what stood
-struck_left : (p : ℕ) (ts : List TapeRecord) (lo hi : ℕ) (os : List Order) → Standing lo os hi → All TwoParties ts → ((n : ℕ) → total_withdrawn n ts ≡ 0)
+struck_left : (p : ℕ) (ts : List TapeRecord) (lo hi : ℕ) (os : List Order) → Standing lo os hi → AllByRecursion TwoParties ts → ((n : ℕ) → total_withdrawn n ts ≡ 0)
     → ((n : ℕ) → total_traded n ts ≤ left_in os n) → (n : ℕ) → left_in os n ≡ accounted_for (struck_records ts os) (struck_orders p ts os) n
 struck_left p ts lo hi os h a w lim n =
     let xs : List Order = apply_trades ts os in

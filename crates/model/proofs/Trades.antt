@@ -1,6 +1,6 @@
 -- The trades at a price: their parties, no order beyond what is left of it, and the first in rank first.
 use Rattle.std.proofs.Common.{◌≡◌, ℕ, ◌-◌, ◌<◌, ◌≤◌, min, true, eqb, ltb, List, [], ◌∷◌, sym, refl, ◌∙◌, subst, arith}
-use Rattle.std.specs.List.{AllByRecursion as All}
+use Rattle.std.specs.List.{AllByRecursion}
 use Rattle.std.proofs.ByRecursion.{All-append, All-weaker}
 use Rattle.std.proofs.lemmas.Bool.{cond_both}
 use Rattle.model.specs.Types.{Buy, Sell, Order, TapeRecord, Trade, Withdrawal}
@@ -25,19 +25,19 @@ Between p P Q (Withdrawal m q r) = ⊥
 
 -- the numbers of some orders have P
 abbrev pub Numbers : (ℕ → Type 0) → List Order → Type 0
-Numbers P os = All (λ o. P o.number) os
+Numbers P os = AllByRecursion (λ o. P o.number) os
 
 one_between : (P Q : ℕ → Type 0) (p n q : ℕ) (ss : List Order) (v : ℕ) → P n → Numbers Q ss
-    → All (Between p P Q) (pair_one p n q ss v).trades × Numbers Q (pair_one p n q ss v).sells
+    → AllByRecursion (Between p P Q) (pair_one p n q ss v).trades × Numbers Q (pair_one p n q ss v).sells
 one_between P Q p n q [] v h k = (tt, tt)
 one_between P Q p n q (s ∷ ss) v h k =
     let t : ℕ = min (min q s.left) v in
-    cond_both (eqb t 0) _ _ (λ (x : Paired). All (Between p P Q) x.trades × Numbers Q x.sells) (λ e. (tt, k))
-    (λ _. cond_both (ltb t s.left) _ _ (λ (x : Paired). All (Between p P Q) x.trades × Numbers Q x.sells)
+    cond_both (eqb t 0) _ _ (λ (x : Paired). AllByRecursion (Between p P Q) x.trades × Numbers Q x.sells) (λ e. (tt, k))
+    (λ _. cond_both (ltb t s.left) _ _ (λ (x : Paired). AllByRecursion (Between p P Q) x.trades × Numbers Q x.sells)
     (λ _. (((refl, h, k.0), tt), k))
     (λ _. let r = one_between P Q p n (q - t) ss (v - t) h k.1 in (((refl, h, k.0), r.0), r.1)))
 
-pair_between : (P Q : ℕ → Type 0) (p : ℕ) (bs ss : List Order) (v : ℕ) → Numbers P bs → Numbers Q ss → All (Between p P Q) (pair p bs ss v)
+pair_between : (P Q : ℕ → Type 0) (p : ℕ) (bs ss : List Order) (v : ℕ) → Numbers P bs → Numbers Q ss → AllByRecursion (Between p P Q) (pair p bs ss v)
 pair_between P Q p [] ss v h k = tt
 pair_between P Q p (b ∷ bs) ss v h k =
     let x : Paired = pair_one p b.number b.left ss v in
@@ -46,12 +46,12 @@ pair_between P Q p (b ∷ bs) ss v h k =
 
 module _ (p : ℕ) (bs ss : List Order) (v : ℕ) (alive : Alive ss) where
   -- what is traded of a number that no sell has, and of one that no buy has
-  traded_of_buy : (n : ℕ) → All (λ s. n ≡ s.number → ⊥) ss → total_traded n (pair p bs ss v) ≡ taken (volume_of bs ss v) bs n
+  traded_of_buy : (n : ℕ) → AllByRecursion (λ s. n ≡ s.number → ⊥) ss → total_traded n (pair p bs ss v) ≡ taken (volume_of bs ss v) bs n
   traded_of_buy n h =
       let r = pair_pairs p bs ss v alive in
       omega (arith, traded_le_both n (pair p bs ss v), bought_le_traded n (pair p bs ss v), r.buys n, r.sells n, taken_missing (volume_of bs ss v) ss n h)
 
-  traded_of_sell : (n : ℕ) → All (λ b. n ≡ b.number → ⊥) bs → total_traded n (pair p bs ss v) ≡ taken (volume_of bs ss v) ss n
+  traded_of_sell : (n : ℕ) → AllByRecursion (λ b. n ≡ b.number → ⊥) bs → total_traded n (pair p bs ss v) ≡ taken (volume_of bs ss v) ss n
   traded_of_sell n h =
       let r = pair_pairs p bs ss v alive in
       omega (arith, traded_le_both n (pair p bs ss v), sold_le_traded n (pair p bs ss v), r.buys n, r.sells n, taken_missing (volume_of bs ss v) bs n h)
@@ -59,13 +59,13 @@ module _ (p : ℕ) (bs ss : List Order) (v : ℕ) (alive : Alive ss) where
   -- a buy of which something remains leaves nothing to the later buys
   pub buys_in_order : Distinct bs → NoShared bs ss → Pairwise (λ x y. total_traded x.number (pair p bs ss v) < x.left → total_traded y.number (pair p bs ss v) ≡ 0) bs
   buys_in_order d a =
-      pairwise_weaker_on (λ b. All (λ s. b.number ≡ s.number → ⊥) ss) (λ x y. taken (volume_of bs ss v) bs x.number < x.left → taken (volume_of bs ss v) bs y.number ≡ 0) (λ x y. total_traded x.number (pair p bs ss v) < x.left → total_traded y.number (pair p bs ss v) ≡ 0)
+      pairwise_weaker_on (λ b. AllByRecursion (λ s. b.number ≡ s.number → ⊥) ss) (λ x y. taken (volume_of bs ss v) bs x.number < x.left → taken (volume_of bs ss v) bs y.number ≡ 0) (λ x y. total_traded x.number (pair p bs ss v) < x.left → total_traded y.number (pair p bs ss v) ≡ 0)
       (λ x y j k h l. traded_of_buy y.number k ∙ h (subst (λ z. z < x.left) (traded_of_buy x.number j) l)) bs a (taken_in_order (volume_of bs ss v) bs d)
 
   -- a sell of which something remains leaves nothing to the later sells
   pub sells_in_order : Distinct ss → NoShared ss bs → Pairwise (λ x y. total_traded x.number (pair p bs ss v) < x.left → total_traded y.number (pair p bs ss v) ≡ 0) ss
   sells_in_order d a =
-      pairwise_weaker_on (λ s. All (λ b. s.number ≡ b.number → ⊥) bs) (λ x y. taken (volume_of bs ss v) ss x.number < x.left → taken (volume_of bs ss v) ss y.number ≡ 0) (λ x y. total_traded x.number (pair p bs ss v) < x.left → total_traded y.number (pair p bs ss v) ≡ 0)
+      pairwise_weaker_on (λ s. AllByRecursion (λ b. s.number ≡ b.number → ⊥) bs) (λ x y. taken (volume_of bs ss v) ss x.number < x.left → taken (volume_of bs ss v) ss y.number ≡ 0) (λ x y. total_traded x.number (pair p bs ss v) < x.left → total_traded y.number (pair p bs ss v) ≡ 0)
       (λ x y j k h l. traded_of_sell y.number k ∙ h (subst (λ z. z < x.left) (traded_of_sell x.number j) l)) ss a (taken_in_order (volume_of bs ss v) ss d)
 
 module _ (g : Settings) (p v : ℕ) (os : List Order) (alive : Alive os) where
@@ -80,27 +80,27 @@ module _ (g : Settings) (p v : ℕ) (os : List Order) (alive : Alive os) where
       omega (arith, pair_total p (at_price g Buy p os) (at_price g Sell p os) v (all_at_price g Sell p os (λ o. 1 ≤ o.left) alive), lefts_at_price g Buy p os, lefts_at_price g Sell p os)
 
 -- each trade is at p between a buy and a sell that may trade there
-pub trades_parties : (g : Settings) (p v : ℕ) (os : List Order) → All (Between p (Party g Buy p os) (Party g Sell p os)) (trades_at g p v os)
+pub trades_parties : (g : Settings) (p v : ℕ) (os : List Order) → AllByRecursion (Between p (Party g Buy p os) (Party g Sell p os)) (trades_at g p v os)
 trades_parties g p v os = pair_between (Party g Buy p os) (Party g Sell p os) p (at_price g Buy p os) (at_price g Sell p os) v (parties_at_price g Buy p os) (parties_at_price g Sell p os)
 
 -- trades between parties are at one price, and their deals have parties that may trade
-pub between_at : (p : ℕ) (P Q : ℕ → Type 0) (ts : List TapeRecord) → All (Between p P Q) ts → all_at p ts
+pub between_at : (p : ℕ) (P Q : ℕ → Type 0) (ts : List TapeRecord) → AllByRecursion (Between p P Q) ts → all_at p ts
 between_at p P Q [] h = tt
 between_at p P Q (Trade b s x q ∷ ts) h = (h.0.0, between_at p P Q ts h.1)
 between_at p P Q (Withdrawal n q r ∷ ts) h = absurd h.0
 
-pub between_deals : (p : ℕ) (P Q : ℕ → Type 0) (ts : List TapeRecord) → All (Between p P Q) ts → All (λ d. P d.buy × Q d.sell) (deals ts)
+pub between_deals : (p : ℕ) (P Q : ℕ → Type 0) (ts : List TapeRecord) → AllByRecursion (Between p P Q) ts → AllByRecursion (λ d. P d.buy × Q d.sell) (deals ts)
 between_deals p P Q [] h = tt
 between_deals p P Q (Trade b s x q ∷ ts) h = ((h.0.1, h.0.2), between_deals p P Q ts h.1)
 between_deals p P Q (Withdrawal n q r ∷ ts) h = absurd h.0
 
-pub between_withdrawn : (p : ℕ) (P Q : ℕ → Type 0) (n : ℕ) (ts : List TapeRecord) → All (Between p P Q) ts → total_withdrawn n ts ≡ 0
+pub between_withdrawn : (p : ℕ) (P Q : ℕ → Type 0) (n : ℕ) (ts : List TapeRecord) → AllByRecursion (Between p P Q) ts → total_withdrawn n ts ≡ 0
 between_withdrawn p P Q n [] h = refl
 between_withdrawn p P Q n (Trade b s x q ∷ ts) h = between_withdrawn p P Q n ts h.1
 between_withdrawn p P Q n (Withdrawal m q r ∷ ts) h = absurd h.0
 
 -- no order trades with itself
-pub trades_apart : (g : Settings) (p v : ℕ) (os : List Order) → Distinct os → All TwoParties (trades_at g p v os)
+pub trades_apart : (g : Settings) (p v : ℕ) (os : List Order) → Distinct os → AllByRecursion TwoParties (trades_at g p v os)
 trades_apart g p v os d =
     All-weaker (Between p (Party g Buy p os) (Party g Sell p os)) TwoParties two (trades_at g p v os) (trades_parties g p v os)
   where

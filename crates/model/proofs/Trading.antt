@@ -1,6 +1,6 @@
 -- Every call keeps the law of trading; what remains of an order is short of every active order of the other side.
 use Rattle.std.proofs.Common.{◌≡◌, ℕ, zero, suc, ◌+◌, ◌<◌, ◌≤◌, Bool, true, false, eqb, ◌⊎◌, List, [], ◌∷◌, map, filter, sym, refl, ap, subst, inl, inr, arith}
-use Rattle.std.specs.List.{ContainsAt as Has, AllByRecursion as All}
+use Rattle.std.specs.List.{ContainsAt as Has, AllByRecursion}
 use Rattle.std.proofs.ByRecursion.{all-has, all_kept_by}
 use Rattle.std.proofs.lemmas.Bool.{both_ways, cases_Bool, cond_both, leb-false}
 use Rattle.model.specs.Types.{Side, Buy, Sell, OrderPrice, Market, Limit, Condition, Plain, FillOrKill, ImmediateOrCancel, Entry, Order, PreOpening, Trading, TapeRecord, Call, Enter, Withdraw, BeginRandom, Auction, Close}
@@ -28,7 +28,7 @@ use Rattle.model.proofs.Striking.{struck_uncrossed, unpriced_uncrossed}
 
 -- where something remains and nothing interrupts, what stands active of the other side after the fills is not allowed
 not_allowed : (g : Settings) (lo hi : ℕ) (s : Side) (p : OrderPrice) (fs : List Fill) (os : List Order) → Standing lo os hi
-    → All (Done s p fs) (active_in_rank g (opposite s) os) → (y : Order) → Has (after_fills fs os) y → y.side ≡ opposite s → active g y.price ≡ true
+    → AllByRecursion (Done s p fs) (active_in_rank g (opposite s) os) → (y : Order) → Has (after_fills fs os) y → y.side ≡ opposite s → active g y.price ≡ true
     → allows s p (limit y.price) ≡ false
 not_allowed g lo hi s p fs os st done y m sy ay = rw k.price (go (all-has (Done s p fs) (active_in_rank g (opposite s) os) k.was done ranks))
   where
@@ -91,7 +91,7 @@ module _ (s : State) (e : Entry) (sound : Sound s) where
   settle_trading ts ms (suc q) (goes reason) clear short = clear
 
   filled_uncrossed : (fs : List Fill) (remaining : ℕ) (i : Bool) → Uncrossed s.settings s.orders
-      → (i ≡ false → 0 < remaining → All (Done e.side e.price fs) (active_in_rank s.settings (opposite e.side) s.orders))
+      → (i ≡ false → 0 < remaining → AllByRecursion (Done e.side e.price fs) (active_in_rank s.settings (opposite e.side) s.orders))
       → UncrossedAfter (filled s e (met fs remaining i))
   filled_uncrossed fs remaining true clear done = settle_stopped (map (trade_of e.side (s.last + 1)) fs) (after_fills fs s.orders) remaining (disposition e.condition e.price (met fs remaining true))
   filled_uncrossed fs remaining false clear done =

@@ -1,6 +1,6 @@
 -- Prices that orders allow, demand and supply at two prices compared; no feasible allocation trades more than either.
 use Rattle.std.proofs.Common.{◌≡◌, ℕ, ◌+◌, ◌<◌, ◌≤◌, Bool, true, false, cond, ◌&&◌, eqb, List, [], ◌∷◌, Some, sum_by, filter, sym, refl, ap, subst, ⊎_elim, arith}
-use Rattle.std.specs.List.{ContainsAt as Has, AllByRecursion as All}
+use Rattle.std.specs.List.{ContainsAt as Has, AllByRecursion}
 use Rattle.std.proofs.ByRecursion.{all-has, All-weaker}
 use Rattle.std.proofs.lemmas.Bool.{cond_both, cond-true, eq-eqb, eqb-true, le-leb, leb-false, leb-true, ne_eqb}
 use Rattle.model.specs.Types.{Side, Buy, Sell, OrderPrice, Market, Limit, Order}
@@ -135,7 +135,7 @@ sell_share n [] = omega arith
 sell_share n (d ∷ ds) = grind (arith, sell_share n ds)
 
 -- orders that hold each deal's party bear the whole quantity
-borne : (party : Deal → ℕ) (os : List Order) (ds : List Deal) → All (λ d. (o : Order) × Has os o × (o.number ≡ party d)) ds
+borne : (party : Deal → ℕ) (os : List Order) (ds : List Deal) → AllByRecursion (λ d. (o : Order) × Has os o × (o.number ≡ party d)) ds
     → total_quantity ds ≤ sum_by (λ o. share party o.number ds) os
 borne party os [] h = omega arith
 borne party os (d ∷ ds) h =
@@ -145,10 +145,10 @@ borne party os (d ∷ ds) h =
 
 -- the same, where no order bears more than is left of it
 bounded : (party : Deal → ℕ) (g : Settings) (s : Side) (p : ℕ) (os : List Order) (ds : List Deal) → Distinct os → ((n : ℕ) → share party n ds ≤ left_in os n)
-    → All (λ d. may_trade g s p (find (party d) os)) ds → total_quantity ds ≤ volume g s p os
+    → AllByRecursion (λ d. may_trade g s p (find (party d) os)) ds → total_quantity ds ≤ volume g s p os
 bounded party g s p os ds d l h =
     let kept : List Order = filter (takes_part g s p) os in
-    let each : All (λ o. share party o.number ds ≤ o.left) kept = all_from_has (λ o. share party o.number ds ≤ o.left) kept (λ o k. omega (arith, l o.number, all-has (λ x. left_in os x.number ≡ x.left) os o (left_in_has os d) (kept_has (takes_part g s p) os o k).0)) in
+    let each : AllByRecursion (λ o. share party o.number ds ≤ o.left) kept = all_from_has (λ o. share party o.number ds ≤ o.left) kept (λ o k. omega (arith, l o.number, all-has (λ x. left_in os x.number ≡ x.left) os o (left_in_has os d) (kept_has (takes_part g s p) os o k).0)) in
     omega (arith, borne party kept ds (All-weaker (λ x. may_trade g s p (find (party x) os)) (λ x. (o : Order) × Has kept o × (o.number ≡ party x)) (λ x k. let r = may_trade_party g s p (party x) os k in (r.0, has_kept (takes_part g s p) os r.0 r.1 r.2, r.3)) ds h), sum_by_mono (λ o. share party o.number ds) (λ o. o.left) kept each)
 
 module _ (g : Settings) (os : List Order) (p : ℕ) (ds : List Deal) (distinct : Distinct os) (f : Feasible g os p ds) where

@@ -1,6 +1,6 @@
 -- The trades that could be made at a grid price, and the best an auction can do.
 use Rattle.std.specs.Prelude.{◌≡◌, ℕ, ◌+◌, ◌<◌, ◌≤◌, Bool, true, false, cond, not, ◌&&◌, ◌||◌, List, [], ◌∷◌, Some, None, Option, ◌==◌}
-use Rattle.std.specs.List.{AllByRecursion as All}
+use Rattle.std.specs.List.{AllByRecursion}
 use Rattle.model.specs.Types.{Side, Buy, Sell, Order, Point, TapeRecord, Trade, Withdrawal}
 use Rattle.model.specs.Grid.{Settings, on_grid}
 use Rattle.model.specs.Curve.{takes_part, point, curve, traded}
@@ -32,7 +32,7 @@ may_trade g s p (Some o) = takes_part g s p o ≡ true
 -- a feasible allocation at a grid price: deals between active buys and active sells that allow it, no order beyond what is left of it
 pub record Feasible (g : Settings) (os : List Order) (p : ℕ) (ds : List Deal) : Type 0 where
   pub grid : on_grid g p ≡ true
-  pub parties : All (λ d. may_trade g Buy p (find d.buy os) × may_trade g Sell p (find d.sell os)) ds
+  pub parties : AllByRecursion (λ d. may_trade g Buy p (find d.buy os) × may_trade g Sell p (find d.sell os)) ds
   pub limited : (n : ℕ) → quantity_of n ds ≤ left_in os n
 
 -- the target of a call, from the lowest and the highest best point of its curve

@@ -1,6 +1,6 @@
 -- The laws that every list of calls keeps, in the market's own words.
 use Rattle.std.specs.Prelude.{◌≡◌, ℕ, ◌+◌, ◌<◌, ◌≤◌, min, true, false, ◌⊎◌, List, [], ◌∷◌, ◌++◌, length, drop, ◌≢◌}
-use Rattle.std.specs.List.{ContainsAt as Has, AllByRecursion as All}
+use Rattle.std.specs.List.{ContainsAt as Has, AllByRecursion}
 use Rattle.model.specs.Types.{Buy, Sell, Order, Phase, PreOpening, Random, Called, Trading, Closed, TapeRecord, Trade, Withdrawal, Call, Enter, Withdraw, BeginRandom, Auction, Close}
 use Rattle.model.specs.Numbers.{max_places, no_refusal}
 use Rattle.model.specs.Grid.{Settings, active}
@@ -60,7 +60,7 @@ in_rank s c o = of_auction c o (Priority s.settings s.orders o.records)
 
 -- no market order stands, and no active buy stands at or above an active sell
 pub record Uncrossed (g : Settings) (os : List Order) : Type 0 where
-  pub no_market : All (λ o. is_market o.price ≡ false) os
+  pub no_market : AllByRecursion (λ o. is_market o.price ≡ false) os
   pub apart : (x y : Order) → Has os x → Has os y → x.side ≡ Buy → y.side ≡ Sell → active g x.price ≡ true → active g y.price ≡ true
       → limit x.price < limit y.price
 
@@ -101,9 +101,9 @@ pub record Kept (r : Rule) (tape : ℕ) (s : State) (cs : List Call) (os : List 
   pub course : each_call in_course s cs os
   pub auctions : each_call (optimal r) s cs os
   pub priority : each_call in_rank s cs os
-  pub trading : All (λ o. while_trading o.state.phase o.state) os
+  pub trading : AllByRecursion (λ o. while_trading o.state.phase o.state) os
   pub conserved : each_call (accounted (records os) (after s os).orders) s cs os
-  pub parties : All TwoParties (records os)
+  pub parties : AllByRecursion TwoParties (records os)
   pub taped : OnTape tape s os
 
 -- under a lawful rule, with a tape and a scratch of any length, every list keeps the laws from every new session; a list that is refused runs no call

@@ -1,6 +1,6 @@
 -- Standing orders are their two sides in rank, put together by number.
 use Rattle.std.proofs.Common.{◌≡◌, ℕ, ◌<◌, Bool, true, false, cond, not, ◌&&◌, ltb, List, [], ◌∷◌, ◌++◌, sym, refl, ap, ◌∙◌, ⊎_elim, arith}
-use Rattle.std.specs.List.{AllByRecursion as All}
+use Rattle.std.specs.List.{AllByRecursion}
 use Rattle.std.proofs.ByRecursion.{All-weaker, all_kept_by}
 use Rattle.std.proofs.lemmas.Bool.{cases_Bool, cond_both, cond-true}
 use Rattle.std.proofs.lemmas.Bool.Decides.{nat_tests}
@@ -49,7 +49,7 @@ file_swap : (a b : Order) (l : List Order) → (a.number ≡ b.number → ⊥) �
 file_swap a b l d = filed_swap earlier (λ x y z h k. grind (arith, nat_tests)) a b l (grind (arith, nat_tests)) (grind (arith, nat_tests))
 
 -- an order with the lowest number comes first
-file_first : (o : Order) (l : List Order) → All (λ x. o.number < x.number) l → file o l ≡ o ∷ l
+file_first : (o : Order) (l : List Order) → AllByRecursion (λ x. o.number < x.number) l → file o l ≡ o ∷ l
 file_first o [] h = refl
 file_first o (x ∷ l) h = cond-true (earlier o x) _ _ (grind (arith, nat_tests))
 
@@ -83,17 +83,17 @@ both_sides lo hi (o ∷ os) h =
     ]
 
 -- what holds of an order and of a list holds once it is filed
-all_file : (P : Order → Type 0) (o : Order) (l : List Order) → P o → All P l → All P (file o l)
+all_file : (P : Order → Type 0) (o : Order) (l : List Order) → P o → AllByRecursion P l → AllByRecursion P (file o l)
 all_file P o [] h k = (h, tt)
-all_file P o (x ∷ l) h k = cond_both (earlier o x) _ _ (All P) (λ _. (h, k)) (λ _. (k.0, all_file P o l h k.1))
+all_file P o (x ∷ l) h k = cond_both (earlier o x) _ _ (AllByRecursion P) (λ _. (h, k)) (λ _. (k.0, all_file P o l h k.1))
 
 -- and so it is with many
-all_file_all : (P : Order → Type 0) (xs l : List Order) → All P xs → All P l → All P (file_all xs l)
+all_file_all : (P : Order → Type 0) (xs l : List Order) → AllByRecursion P xs → AllByRecursion P l → AllByRecursion P (file_all xs l)
 all_file_all P [] l h k = k
 all_file_all P (x ∷ xs) l h k = all_file P x (file_all xs l) h.0 (all_file_all P xs l h.1 k)
 
 -- what holds of two queues holds of their orders together
-pub all_by_number : (P : Order → Type 0) (xs ys : List Order) → All P xs → All P ys → All P (by_number xs ys)
+pub all_by_number : (P : Order → Type 0) (xs ys : List Order) → AllByRecursion P xs → AllByRecursion P ys → AllByRecursion P (by_number xs ys)
 all_by_number P xs ys h k = all_file_all P xs (file_all ys []) h (all_file_all P ys [] k tt)
 
 -- whether all numbers are below n, once an order is filed

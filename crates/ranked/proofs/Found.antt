@@ -1,6 +1,6 @@
 -- An order that is found in a queue, and the order found under its number.
 use Rattle.std.proofs.Common.{◌≡◌, ℕ, ◌<◌, cond, eqb, List, [], ◌∷◌, length, get_or, Some, None, sym, refl, ap, ◌∙◌, subst, arith}
-use Rattle.std.specs.List.{ContainsAt as Has, AllByRecursion as All}
+use Rattle.std.specs.List.{ContainsAt as Has, AllByRecursion}
 use Rattle.std.proofs.ByRecursion.{All-get_or, all_kept_by, has_get_or}
 use Rattle.std.proofs.lemmas.Bool.{cond_both, cond-true, cond-false, ne_eqb, eqb-false}
 use Rattle.model.specs.declared.types.Side.{Side}
@@ -72,5 +72,5 @@ missing h n a =
 -- an order of a queue passes the check of its bounds
 pub checked : (h : Sides) (s : Side) (i : ℕ) (x : Order) → InRank h → i < length (queue s h) → x ≡ get_or (queue s h) i blank → cond (in_bounds x) (Some x) None ≡ Some x
 checked h s i x r l e =
-    let bounded : All Bounded (queue s h) = subst (All Bounded) (r.ranks s) (all_ranked Bounded s (meaning h) (all_kept_by (of_side s) Bounded (meaning h) r.held.bounded)) in
+    let bounded : AllByRecursion Bounded (queue s h) = subst (AllByRecursion Bounded) (r.ranks s) (all_ranked Bounded s (meaning h) (all_kept_by (of_side s) Bounded (meaning h) r.held.bounded)) in
     cond-true (in_bounds x) _ _ (bounded_in x (subst Bounded (sym e) (All-get_or Bounded (queue s h) i blank l bounded)))

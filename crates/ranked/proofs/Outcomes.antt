@@ -1,6 +1,6 @@
 -- What each change of the queues does to the standing orders.
 use Rattle.std.proofs.Common.{◌≡◌, ℕ, ◌-◌, ◌<◌, true, ltb, leb, List, [], ◌∷◌, ◌++◌, get_or, take, set, sym, refl, ap, ◌∙◌, subst, arith}
-use Rattle.std.specs.List.{remove, AllByRecursion as All}
+use Rattle.std.specs.List.{remove, AllByRecursion}
 use Rattle.std.proofs.ByRecursion.{All-append}
 use Rattle.std.proofs.lemmas.List.{append-nil}
 use Rattle.std.proofs.lemmas.Bool.{and_parts, leb-true, ltb-true}
@@ -58,7 +58,7 @@ added h k o r s b c =
     (hold_enter o.side h k os [] o refl (below_lacks o.number os b) (λ t. sym (r.ranks t) ∙ sym (ap (ranked t) (append-nil os))) c)
 
 -- what holds of all orders holds of each part of them
-all_parts : (P : Order → Type 0) (xs : List Order) (x : Order) (ys : List Order) → All P (xs ++ x ∷ ys) → All P xs × P x × All P ys
+all_parts : (P : Order → Type 0) (xs : List Order) (x : Order) (ys : List Order) → AllByRecursion P (xs ++ x ∷ ys) → AllByRecursion P xs × P x × AllByRecursion P ys
 all_parts P [] x ys h = (tt, h.0, h.1)
 all_parts P (z ∷ xs) x ys h = let r = all_parts P xs x ys h.1 in ((h.0, r.0), r.1, r.2)
 
@@ -73,8 +73,8 @@ module _ (h : Sides) (n : ℕ) (p : Position) (x : Order) (a : Stands h n p x) w
   lacks = subst (λ m. Lacks m split.front) a.number split.low
 
   -- all of them are in bounds
-  parts : All Bounded split.front × Bounded x × All Bounded split.rest
-  parts = all_parts Bounded split.front x split.rest (subst (All Bounded) split.is a.rank.held.bounded)
+  parts : AllByRecursion Bounded split.front × Bounded x × AllByRecursion Bounded split.rest
+  parts = all_parts Bounded split.front x split.rest (subst (AllByRecursion Bounded) split.is a.rank.held.bounded)
 
   -- it is the one at its index
   here : (get_or (queue p.side h) p.index blank).number ≡ x.number
@@ -103,7 +103,7 @@ module _ (h : Sides) (n : ℕ) (p : Position) (x : Order) (a : Stands h n p x) w
     used_up z c =
         let after = ap (lower n q) split.is ∙ lower_whole n x split.rest a.number q split.front lacks (omega (arith, left)) in
         becomes k (lower n q (meaning h))
-        (record { standing = standing; bounded = subst (All Bounded) (sym after) (All-append Bounded split.front split.rest parts.0 parts.2) })
+        (record { standing = standing; bounded = subst (AllByRecursion Bounded) (sym after) (All-append Bounded split.front split.rest parts.0 parts.2) })
         (λ t. without k c t ∙ sym (ap (ranked t) after))
 
     -- something is left, and it is replaced
@@ -115,7 +115,7 @@ module _ (h : Sides) (n : ℕ) (p : Position) (x : Order) (a : Stands h n p x) w
         let b = parts.1 in
         let in_bounds : Bounded w = record { number_low = b.number_low; number_high = b.number_high; member_low = b.member_low; member_high = b.member_high; price_low = b.price_low; price_high = b.price_high; left_low = some; left_high = let m = b.left_high in omega arith } in
         becomes k (lower n q (meaning h))
-        (record { standing = standing; bounded = subst (All Bounded) (sym after) (All-append Bounded split.front (w ∷ split.rest) parts.0 (in_bounds, parts.2)) })
+        (record { standing = standing; bounded = subst (AllByRecursion Bounded) (sym after) (All-append Bounded split.front (w ∷ split.rest) parts.0 (in_bounds, parts.2)) })
         (λ t. hold_replace p.side h k split.front split.rest x split.side split.low split.high hold p.index blank a.within here w split.side refl refl (subst (λ o. Changed p.side (set (queue p.side h) p.index o) h k) e c) t ∙ sym (ap (ranked t) after))
 
   -- it is removed, and entered again at a limit price
@@ -128,5 +128,5 @@ module _ (h : Sides) (n : ℕ) (p : Position) (x : Order) (a : Stands h n p x) w
       let r = and_parts (leb 1 price) (leb price max_price) f in
       let in_bounds : Bounded w = record { number_low = b.number_low; number_high = b.number_high; member_low = b.member_low; member_high = b.member_high; price_low = leb-true 1 price r.0; price_high = leb-true price max_price r.1; left_low = b.left_low; left_high = b.left_high } in
       becomes k (turn n price (meaning h))
-      (record { standing = turn_standing 0 max_number n price (meaning h) a.rank.held.standing; bounded = subst (All Bounded) (sym after) (All-append Bounded split.front (w ∷ split.rest) parts.0 (in_bounds, parts.2)) })
+      (record { standing = turn_standing 0 max_number n price (meaning h) a.rank.held.standing; bounded = subst (AllByRecursion Bounded) (sym after) (All-append Bounded split.front (w ∷ split.rest) parts.0 (in_bounds, parts.2)) })
       (λ t. hold_enter p.side m k split.front split.rest w split.side split.low (without m c) (subst (λ o. Changed p.side (insert p.side o (queue p.side m)) m k) e d) t ∙ sym (ap (ranked t) after))

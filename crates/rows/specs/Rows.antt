@@ -1,7 +1,7 @@
 -- What the rows of a table keep.
 use Rattle.std.specs.Prelude.{ℕ, List, [], ◌∷◌}
 use Rattle.std.proofs.Math.Bridge.{le_prop}
-use Rattle.std.specs.List.{AllByRecursion as All}
+use Rattle.std.specs.List.{AllByRecursion}
 use Rattle.model.specs.declared.types.Side.TheVariants.{Buy}
 use Rattle.model.specs.declared.types.OrderPrice.TheVariants.{Market}
 use Rattle.model.specs.declared.types.Order.{Order}
@@ -16,7 +16,7 @@ blank = record { number = 0; member = 0; side = Buy; price = Market; left = 0 }
 -- the orders that rows hold: numbers ascend, and contents are in bounds with something left
 pub record Held (os : List Order) : Type 0 where
   pub standing : Standing 0 os max_number
-  pub bounded : All Bounded os
+  pub bounded : AllByRecursion Bounded os
 
 standing_prop : (lo hi : ℕ) (os : List Order) → IsProp (Standing lo os hi)
 standing_prop lo hi [] p q = λ i. le_prop p q i
@@ -34,7 +34,7 @@ bounded_prop o p q = λ i. record {
   left_high = le_prop p.left_high q.left_high i;
 }
 
-all_prop : {X : Type 0} (P : X → Type 0) → ((x : X) → IsProp (P x)) → (xs : List X) → IsProp (All P xs)
+all_prop : {X : Type 0} (P : X → Type 0) → ((x : X) → IsProp (P x)) → (xs : List X) → IsProp (AllByRecursion P xs)
 all_prop P h [] p q = λ i. tt
 all_prop P h (x ∷ xs) p q = λ i. (h x p.0 q.0 i, all_prop P h xs p.1 q.1 i)
 

@@ -6,11 +6,13 @@ use Rattle.model.specs.declared.types.Order.{Order}
 use Rattle.model.specs.Orders.{Standing}
 use Rattle.model.specs.State.{State}
 use Rattle.model.specs.Views.{view}
+use Rattle.book.specs.declared.meaning.Book.{Ghosts as BookMembers}
+use Rattle.pricing.specs.declared.rule.PriceRule.{Ghosts as RuleMembers}
 use Rattle.grid.specs.Views.{plain}
 use Rattle.session.specs.declared.session.Session.{Session}
 
 -- the session in the definition's words
-abbrev pub state : {B R : Type 0} → (B → List Order) → (B → ℕ) → Session B R → State
+abbrev pub state : {B R : Type 0} {b : BookMembers B} {r : RuleMembers R} → (B → List Order) → (B → ℕ) → Session B R b r → State
 state orders capacity s = view (plain s.settings) s.day (orders s.book) (capacity s.book)
 
 -- no standing order has a number above the last one given; a session that is made has it, and every call keeps it

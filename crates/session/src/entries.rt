@@ -1,6 +1,6 @@
 ghost use Rattle.std.specs.Prelude.{◌≡◌, length};
 ghost use Rattle.model.specs.Entry.{enter as enter_of};
-ghost use Rattle.model.specs.Calls.{withdraw as withdraw_of, begin_random as begin_random_of, close as CloseOf};
+ghost use Rattle.model.specs.Calls.{withdraw as withdraw_of, begin_random as begin_random_of, close as close_of};
 ghost use Rattle.model.specs.Views.{refusal_of, answer_of, Came};
 ghost use Rattle.session.specs.Views.{state, Sound};
 
@@ -51,7 +51,7 @@ impl<B: Book, R: PriceRule> Session<B, R> {
 
     // Withdraws every order that stands, ends the day, and answers how many they were.
     pub fn close(&mut self, tape: &mut [TapeRecord]) -> Result<u64, Refusal>
-        ensures came { Came (CloseOf (state B.orders B.capacity self.old) (length tape.old)) result (state B.orders B.capacity self.new) tape.old self.old.day.used tape.new }
+        ensures came { Came (close_of (state B.orders B.capacity self.old) (length tape.old)) result (state B.orders B.capacity self.new) tape.old self.old.day.used tape.new }
         ensures sound { Sound (state B.orders B.capacity self.old) → Sound (state B.orders B.capacity self.new) }
         ensures rule { self.new.rule ≡ self.old.rule }
     {

@@ -1,7 +1,7 @@
 ghost use Rattle.std.specs.Prelude.{◌≡◌, true, length};
 ghost use Rattle.model.specs.Entry.{enter as enter_of};
 ghost use Rattle.model.specs.State.{takes_orders, takes_withdrawals, takes_close, is_random};
-ghost use Rattle.model.specs.Calls.{withdraw as withdraw_of, close as CloseOf, auction as auction_of, scratch_after};
+ghost use Rattle.model.specs.Calls.{withdraw as withdraw_of, close as close_of, auction as auction_of, scratch_after};
 ghost use Rattle.model.specs.Run.{step as outcome, scratch_step};
 ghost use Rattle.model.specs.Views.{Came};
 ghost use Rattle.session.specs.Views.{state, Sound, RestsOn};
@@ -91,7 +91,7 @@ fn closed<B: Book, R: PriceRule>(
     tape: &mut [TapeRecord],
 ) -> Result<u64, Refusal>
     requires { takes_close session.old.day.phase ≡ true }
-    ensures came { Came (CloseOf (state B.orders B.capacity session.old) (length tape.old)) result (state B.orders B.capacity session.new) tape.old session.old.day.used tape.new }
+    ensures came { Came (close_of (state B.orders B.capacity session.old) (length tape.old)) result (state B.orders B.capacity session.new) tape.old session.old.day.used tape.new }
     ensures rule { session.new.rule ≡ session.old.rule }
 {
     close(&mut session.book, &mut session.day, tape)

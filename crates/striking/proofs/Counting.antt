@@ -1,6 +1,6 @@
 -- A count of the trades of a strike, one trade after another.
 use Rattle.std.proofs.Common.{◌≡◌, ℕ, ◌+◌, ◌-◌, ◌<◌, ◌≤◌, Bool, true, false, cond, ◌&&◌, ◌||◌, eqb, leb, ◌⊎◌, List, [], ◌∷◌, length, drop, filter, sym, refl, ap, ◌∙◌, subst, ap₂, inl, inr, ⊎_elim, arith}
-use Rattle.std.specs.List.{AllByRecursion as All}
+use Rattle.std.specs.List.{AllByRecursion}
 use Rattle.std.proofs.ByRecursion.{All-drop, all_kept_by}
 use Rattle.std.proofs.lemmas.Bool.{and_left, and_parts, and_right, cases_Bool, cases_eq, cond_both, cond-false, cond-true, eq-eqb, eqb-true, eqb-false, le-leb, lt-leb, ne_eqb, or_from, or_left, or_right, false≢true}
 use Rattle.model.specs.declared.types.Side.{Side}
@@ -55,7 +55,7 @@ idle_none (x ∷ xs) = ap (λ l. cond (idle [] x) (x ∷ l) l) (idle_none xs) �
     and_true false = refl
 
 -- a trade of others leaves the idle orders idle
-idle_past : (r : TapeRecord) (us : List TapeRecord) (xs : List Order) → All (λ y. traded_of y.number r ≡ 0) xs → filter (idle (r ∷ us)) xs ≡ filter (idle us) xs
+idle_past : (r : TapeRecord) (us : List TapeRecord) (xs : List Order) → AllByRecursion (λ y. traded_of y.number r ≡ 0) xs → filter (idle (r ∷ us)) xs ≡ filter (idle us) xs
 idle_past r us [] h = refl
 idle_past r us (x ∷ xs) h =
     let same : total_traded x.number (r ∷ us) ≡ total_traded x.number us = omega (arith, h.0) in
@@ -76,12 +76,12 @@ module _ (g : Settings) (s : Side) (p : ℕ) (os : List Order) (d : Distinct os)
   here_active = sym f.none_between ∙ f.onward
 
   -- neither party of the trade is among them
-  later_quiet : All (λ y. traded_of y.number r ≡ 0) later
+  later_quiet : AllByRecursion (λ y. traded_of y.number r ≡ 0) later
   later_quiet =
       let dx : Distinct (o ∷ later) = subst Distinct here_active (distinct_kept (λ y. active g y.price) (drop k rank) (distinct_drop k rank (distinct_ranked s os d))) in
       go later dx.0 (all_kept_by (λ y. active g y.price) (λ y. m ≡ y.number → ⊥) (drop (k + 1) rank) (All-drop (λ y. m ≡ y.number → ⊥) (k + 1) rank lacks))
     where
-      go : (ys : List Order) → All (λ y. o.number ≡ y.number → ⊥) ys → All (λ y. m ≡ y.number → ⊥) ys → All (λ y. traded_of y.number r ≡ 0) ys
+      go : (ys : List Order) → AllByRecursion (λ y. o.number ≡ y.number → ⊥) ys → AllByRecursion (λ y. m ≡ y.number → ⊥) ys → AllByRecursion (λ y. traded_of y.number r ≡ 0) ys
       go [] a b = tt
       go (y ∷ ys) a b = (quiet y.number a.0 b.0, go ys a.1 b.1)
 

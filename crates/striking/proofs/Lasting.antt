@@ -1,6 +1,6 @@
 -- The last order of a side that trades is the only one of that side that trades in part.
 use Rattle.std.proofs.Common.{◌≡◌, ℕ, zero, suc, ◌+◌, ◌-◌, ◌<◌, ◌≤◌, min, cond, ◌||◌, eqb, leb, ◌⊎◌, List, [], ◌∷◌, sym, refl, ap, ◌∙◌, subst, inl, inr, ⊎_elim, arith}
-use Rattle.std.specs.List.{AllByRecursion as All}
+use Rattle.std.specs.List.{AllByRecursion}
 use Rattle.std.proofs.lemmas.Bool.{cond_both, cond-true, cond-false, cases_eq, eq-eqb, leb-true, leb-false, lt-leb, or_left, or_right}
 use Rattle.model.specs.declared.types.Side.{Side}
 use Rattle.model.specs.declared.types.Side.TheVariants.{Buy, Sell}
@@ -92,7 +92,7 @@ module _ (s : Side) (x : Order) (xs : List Order) (t : ℕ) (r : TapeRecord) (ts
         (λ e.
         let own = counts x.number n t e in
         let whole = counts x.number n x.left e in
-        let gone : left_in xs n ≡ 0 = left_in_missing xs n (subst (λ m. All (λ o. m ≡ o.number → ⊥) xs) e d.0) in
+        let gone : left_in xs n ≡ 0 = left_in_missing xs n (subst (λ m. AllByRecursion (λ o. m ≡ o.number → ⊥) xs) e d.0) in
         ⊎_elim
         (λ z. ends n e (omega (arith, shares n)) z)
         (λ z. i.last (distinct_rest x t xs d) x.number n (omega arith) (omega (arith, shares n, rest_own n e)))
@@ -103,8 +103,8 @@ module _ (s : Side) (x : Order) (xs : List Order) (t : ℕ) (r : TapeRecord) (ts
 
 -- so of every pairing
 module _ (p : ℕ) (bs ss : List Order) (v : ℕ) (ab : Alive bs) (sb : Alive ss) where
-  pub pair_positive : All Positive (pair p bs ss v)
-  pair_positive = by_trades p (λ _ _ ts. All Positive ts) (λ _ _. tt) (λ b bs s ss t ts some _ _ h. (some, h)) v bs ss v (omega arith) ab sb
+  pub pair_positive : AllByRecursion Positive (pair p bs ss v)
+  pair_positive = by_trades p (λ _ _ ts. AllByRecursion Positive ts) (λ _ _. tt) (λ b bs s ss t ts some _ _ h. (some, h)) v bs ss v (omega arith) ab sb
 
   pub pair_lasts : Lasts Buy bs (pair p bs ss v) × Lasts Sell ss (pair p bs ss v)
   pair_lasts =
@@ -120,7 +120,7 @@ trades_party : (b s q n : ℕ) → 1 ≤ q → (b ≡ n) ⊎ (s ≡ n) → cond 
 trades_party b s q n l (inl e) z = omega (arith, cond-true (eqb b n || eqb s n) q 0 (or_left (eqb b n) (eqb s n) (eq-eqb b n e)))
 trades_party b s q n l (inr e) z = omega (arith, cond-true (eqb b n || eqb s n) q 0 (or_right (eqb b n) (eqb s n) (eq-eqb s n e)))
 
-pub last_trades : (s : Side) (ts : List TapeRecord) → All Positive ts → (d n : ℕ) → last_party s d ts ≡ n → total_traded n ts ≡ 0 → d ≡ n
+pub last_trades : (s : Side) (ts : List TapeRecord) → AllByRecursion Positive ts → (d n : ℕ) → last_party s d ts ≡ n → total_traded n ts ≡ 0 → d ≡ n
 last_trades s [] h d n e z = e
 last_trades Buy (Trade b s p q ∷ ts) h d n e z = absurd (trades_party b s q n h.0 (inl (last_trades Buy ts h.1 b n e (omega arith))) (omega arith))
 last_trades Sell (Trade b s p q ∷ ts) h d n e z = absurd (trades_party b s q n h.0 (inr (last_trades Sell ts h.1 s n e (omega arith))) (omega arith))

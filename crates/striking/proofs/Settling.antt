@@ -1,6 +1,6 @@
 -- What becomes of market orders after the trades of a strike.
 use Rattle.std.proofs.Common.{◌≡◌, ℕ, ◌-◌, ◌≤◌, Bool, true, false, cond, not, ◌&&◌, ◌||◌, eqb, leb, List, [], ◌∷◌, map, Some, filter, sym, refl, ap, ◌∙◌, subst, ⊎_elim, arith}
-use Rattle.std.specs.List.{AllByRecursion as All}
+use Rattle.std.specs.List.{AllByRecursion}
 use Rattle.std.proofs.lemmas.Bool.{and_from, and_left, and_right, both_ways, cases_Bool, cond_both, cond-false, cond-true, eq-eqb, eqb-true, ne_eqb, not_from_false, not_from_true, or_cases, or_left, or_parts, or_right}
 use Rattle.model.specs.declared.types.OrderPrice.TheVariants.{Limit}
 use Rattle.model.specs.declared.types.Order.{Order}
@@ -119,7 +119,7 @@ module _ (ts : List TapeRecord) (p b s : ℕ) where
       (cases_Bool (is_market o.price))
 
   -- without the market orders they are the settled orders without the idle ones
-  pub settled_kept : (os : List Order) → All (Told ts b s) os → filter no_market (both os) ≡ map (settled p) (filter (λ o. not (idle ts o)) os)
+  pub settled_kept : (os : List Order) → AllByRecursion (Told ts b s) os → filter no_market (both os) ≡ map (settled p) (filter (λ o. not (idle ts o)) os)
   settled_kept [] h = refl
   settled_kept (o ∷ os) h =
       let i = settled_kept os h.1 in
@@ -133,7 +133,7 @@ module _ (ts : List TapeRecord) (p b s : ℕ) where
       (λ m e y. ap left y ∙ cond-false (no_market o) _ _ (not_from_true (is_market o.price) m) ∙ i ∙ sym (ap (map (settled p)) (cond-false (not (idle ts o)) _ _ (not_from_true (idle ts o) e))))
 
   -- and the market orders are the idle ones
-  pub idle_kept : (os : List Order) → All (Told ts b s) os → filter is_market_order (both os) ≡ filter (idle ts) os
+  pub idle_kept : (os : List Order) → AllByRecursion (Told ts b s) os → filter is_market_order (both os) ≡ filter (idle ts) os
   idle_kept [] h = refl
   idle_kept (o ∷ os) h =
       let i = idle_kept os h.1 in
@@ -159,7 +159,7 @@ module _ (us : List TapeRecord) where
       (λ _. cond-false (idle us o) (with_left o (o.left - q) ∷ ks) ks busy ∙ sym (cond-false (idle us o) (o ∷ ks) ks busy)))
       (λ _. ap (λ l. cond (idle us o) (o ∷ l) l) (idle_lower n q os h))
 
-  pub idle_trades : (ts : List TapeRecord) (os : List Order) → All Positive ts → ((n : ℕ) → total_traded n ts ≤ total_traded n us) → filter (idle us) (apply_trades ts os) ≡ filter (idle us) os
+  pub idle_trades : (ts : List TapeRecord) (os : List Order) → AllByRecursion Positive ts → ((n : ℕ) → total_traded n ts ≤ total_traded n us) → filter (idle us) (apply_trades ts os) ≡ filter (idle us) os
   idle_trades [] os h w = refl
   idle_trades (Trade b s p q ∷ ts) os h w =
       idle_trades ts (lower s q (lower b q os)) h.1 (λ n. omega (arith, w n))

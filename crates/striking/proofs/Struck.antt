@@ -1,7 +1,7 @@
 -- The orders and the records of a strike, from its trades and the orders that traded last.
 use Rattle.std.proofs.Common.{◌≡◌, ℕ, ◌+◌, ◌-◌, ◌*◌, ◌<◌, ◌≤◌, Bool, true, false, ◌&&◌, ◌||◌, eqb, leb, ◌⊎◌, List, [], ◌∷◌, map, length, filter, sym, refl, ap, ◌∙◌, subst, inl, inr, ⊎_elim, arith, length-append}
 use native.Mathlib.Nat.{one-le-mul}
-use Rattle.std.specs.List.{AllByRecursion as All}
+use Rattle.std.specs.List.{AllByRecursion}
 use Rattle.std.proofs.ByRecursion.{all-has}
 use Rattle.std.proofs.lemmas.List.{length-map}
 use Rattle.std.proofs.lemmas.Bool.{and_from, and_parts, cases_eq, cases_lt, cond_both, eq-eqb, le-leb, leb-true, ne_eqb, not_from_false, not_from_true, or_from, or_left, or_right}
@@ -46,7 +46,7 @@ kept_left f n [] d = inl refl
 kept_left f n (o ∷ os) d =
     ⊎_elim
     (λ e.
-    let gone : left_in os n ≡ 0 = left_in_missing os n (subst (λ m. All (λ x. m ≡ x.number → ⊥) os) e d.0) in
+    let gone : left_in os n ≡ 0 = left_in_missing os n (subst (λ m. AllByRecursion (λ x. m ≡ x.number → ⊥) os) e d.0) in
     let none : left_in (filter f os) n ≡ 0 = ⊎_elim (λ z. z) (λ z. z ∙ gone) (kept_left f n os d.1) in
     cond_both (f o) _ _ (λ l. (left_in l n ≡ 0) ⊎ (left_in l n ≡ left_in (o ∷ os) n)) (λ _. inr (omega arith)) (λ _. inl none))
     (λ e.
@@ -68,7 +68,7 @@ module _ (g : Settings) (p v hi : ℕ) (os : List Order) (st : Standing 0 os hi)
   alive_at : (s : Side) → Alive (at_price g s p os)
   alive_at s = all_at_price g s p os (λ o. 1 ≤ o.left) (standing_alive 0 hi os st)
 
-  pub trades_positive : All Positive ts
+  pub trades_positive : AllByRecursion Positive ts
   trades_positive = pair_positive p (at_price g Buy p os) (at_price g Sell p os) v (alive_at Buy) (alive_at Sell)
 
   lasts : (s : Side) → Lasts s (at_price g s p os) ts
@@ -109,7 +109,7 @@ module _ (g : Settings) (p v hi : ℕ) (os : List Order) (st : Standing 0 os hi)
       apart : (s : Side) (n : ℕ) → 0 < n → total_traded n ts ≡ 0 → eqb n (last s) ≡ false
       apart s n low z = ne_eqb n (last s) (λ e. omega (arith, last_trades s ts trades_positive 0 n (sym e) z))
 
-  told : All (Told ts (last Buy) (last Sell)) ended
+  told : AllByRecursion (Told ts (last Buy) (last Sell)) ended
   told = all_from_has (Told ts (last Buy) (last Sell)) ended (λ o h.
       told_one o (all-has (λ x. 0 < x.number) ended o (standing_above 0 hi ended standing_ended) h)
       (omega (

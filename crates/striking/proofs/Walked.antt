@@ -1,6 +1,6 @@
 -- A walk over the orders of a side that may trade at a price.
 use Rattle.std.proofs.Common.{◌≡◌, ℕ, zero, suc, ◌+◌, Bool, true, false, cond, ◌&&◌, List, [], ◌∷◌, drop, filter, sym, refl, ap, ◌∙◌, subst, ⊎_elim}
-use Rattle.std.specs.List.{ContainsAt as Has, AllByRecursion as All}
+use Rattle.std.specs.List.{ContainsAt as Has, AllByRecursion}
 use Rattle.std.proofs.lemmas.Bool.{cond-true, cond-false, cases_Bool, both_ways}
 use Rattle.std.proofs.ByRecursion.{All-drop, all-has, all_has_itself, All-weaker, kept_by_passes}
 use Rattle.model.specs.declared.types.Order.{Order}
@@ -16,7 +16,7 @@ use Rattle.striking.specs.Parties.{willing, parties}
 use Rattle.model.proofs.Commuting.{kept_ranked}
 
 -- a filter that nothing passes
-kept_none : (f : Order → Bool) (xs : List Order) → All (λ x. f x ≡ false) xs → filter f xs ≡ []
+kept_none : (f : Order → Bool) (xs : List Order) → AllByRecursion (λ x. f x ≡ false) xs → filter f xs ≡ []
 kept_none f [] h = refl
 kept_none f (x ∷ xs) h = cond-false (f x) _ _ h.0 ∙ kept_none f xs h.1
 
@@ -26,7 +26,7 @@ pairwise_drop R (suc j) [] h = h
 pairwise_drop R (suc j) (x ∷ xs) h = pairwise_drop R j xs h.1
 
 -- of the orders of a side, those that take part are the active ones that allow the price
-parts_willing : (g : Settings) (s : Side) (p : ℕ) (xs : List Order) → All (λ x. of_side s x ≡ true) xs → filter (takes_part g s p) xs ≡ willing s p (actives g xs)
+parts_willing : (g : Settings) (s : Side) (p : ℕ) (xs : List Order) → AllByRecursion (λ x. of_side s x ≡ true) xs → filter (takes_part g s p) xs ≡ willing s p (actives g xs)
 parts_willing g s p [] h = refl
 parts_willing g s p (x ∷ xs) h =
     let i = parts_willing g s p xs h.1 in
@@ -38,7 +38,7 @@ pub at_price_parties : (g : Settings) (s : Side) (p : ℕ) (os : List Order) →
 at_price_parties g s p os = sym (kept_ranked (takes_part g s p) s os) ∙ parts_willing g s p (ranked s os) (all_ranked (λ x. of_side s x ≡ true) s os (kept_by_passes (of_side s) os))
 
 -- where the first of some active orders in rank does not allow the price, no later one does
-none_willing : (s : Side) (p : ℕ) (o : Order) (ys : List Order) → All (λ y. Wider s o.price y.price) ys → allows s o.price p ≡ false → willing s p (o ∷ ys) ≡ []
+none_willing : (s : Side) (p : ℕ) (o : Order) (ys : List Order) → AllByRecursion (λ y. Wider s o.price y.price) ys → allows s o.price p ≡ false → willing s p (o ∷ ys) ≡ []
 none_willing s p o ys h e =
     kept_none (λ x. allows s x.price p) (o ∷ ys) (
       e,

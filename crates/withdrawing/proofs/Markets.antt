@@ -1,6 +1,6 @@
 -- The market orders of a book, counted from the front of each side's ranking.
 use Rattle.std.proofs.Common.{◌≡◌, ℕ, zero, suc, ◌+◌, ◌<◌, Bool, true, false, List, [], ◌∷◌, length, drop, Some, None, filter, Option, sym, refl, ap, ◌∙◌, subst}
-use Rattle.std.specs.List.{AllByRecursion as All}
+use Rattle.std.specs.List.{AllByRecursion}
 use Rattle.std.proofs.lemmas.Bool.{cond-true, cond-false, false≢true, true≢false}
 use Rattle.model.specs.declared.types.Order.{Order}
 use Rattle.model.specs.declared.types.OrderPrice.{OrderPrice}
@@ -33,7 +33,7 @@ before_no_market s Market q earlier m h = absurd (true≢false m)
 before_no_market s (Limit p) Market earlier m h = absurd (false≢true h)
 before_no_market s (Limit p) (Limit q) earlier m h = refl
 
-no_markets : (s : Side) (x : Order) (xs : List Order) → is_market_order x ≡ false → All (λ y. before s x y ≡ true) xs → markets xs ≡ []
+no_markets : (s : Side) (x : Order) (xs : List Order) → is_market_order x ≡ false → AllByRecursion (λ y. before s x y ≡ true) xs → markets xs ≡ []
 no_markets s x [] m h = refl
 no_markets s x (y ∷ ys) m h = cond-false (is_market_order y) _ _ (before_no_market s x.price y.price _ m h.0) ∙ no_markets s x ys m h.1
 

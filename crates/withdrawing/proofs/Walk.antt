@@ -1,6 +1,6 @@
 -- A walk over a book by number that withdraws the chosen orders.
 use Rattle.std.proofs.Common.{◌≡◌, ℕ, ◌+◌, ◌<◌, ◌≤◌, Bool, true, false, cond, not, eqb, ltb, leb, List, [], ◌∷◌, ◌++◌, map, length, set, Some, None, filter, sym, refl, ap, ◌∙◌, subst, append_assoc, add-zero, arith}
-use Rattle.std.specs.List.{AllByRecursion as All}
+use Rattle.std.specs.List.{AllByRecursion}
 use Rattle.std.proofs.ByRecursion.{All-weaker, All-push}
 use Rattle.std.proofs.lemmas.Bool.{cond_both, cond-true, cond-false, and_from, eq-eqb, ne_eqb, le-leb, le-ltb, lt-ltb, ltb-true, not_from_true, not_from_false}
 use Rattle.model.specs.declared.types.Order.{Order}
@@ -21,29 +21,29 @@ pub record Walk (p : Order → Bool) (rec : Order → TapeRecord) (at : ℕ) (os
   pub front : List Order
   pub back : List Order
   pub whole : os ≡ front ++ back
-  pub low : All (λ x. x.number ≤ last) front
-  pub high : All (λ x. last < x.number) back
+  pub low : AllByRecursion (λ x. x.number ≤ last) front
+  pub high : AllByRecursion (λ x. last < x.number) back
   pub orders : front ++ others p back ≡ others p os₀
   pub records : written t next (map rec (filter p back)) ≡ written t₀ at (map rec (filter p os₀))
   pub places : next + length (filter p back) ≡ at + length (filter p os₀)
   pub later : at ≤ next
 
 -- an order between those up to a number and those above its own
-above : (lo hi : ℕ) (front : List Order) (o : Order) (rest : List Order) → Standing lo (front ++ o ∷ rest) hi → (1 ≤ o.left) × All (λ x. o.number < x.number) rest
+above : (lo hi : ℕ) (front : List Order) (o : Order) (rest : List Order) → Standing lo (front ++ o ∷ rest) hi → (1 ≤ o.left) × AllByRecursion (λ x. o.number < x.number) rest
 above lo hi [] o rest h = (h.1, standing_above o.number hi rest h.2)
 above lo hi (x ∷ front) o rest h = above x.number hi front o rest h.2
 
-find_in : (n : ℕ) (front : List Order) (o : Order) (rest : List Order) → All (λ x. x.number ≤ n) front → n < o.number → find o.number (front ++ o ∷ rest) ≡ Some o
+find_in : (n : ℕ) (front : List Order) (o : Order) (rest : List Order) → AllByRecursion (λ x. x.number ≤ n) front → n < o.number → find o.number (front ++ o ∷ rest) ≡ Some o
 find_in n [] o rest l h = cond-true (eqb o.number o.number) _ _ (eq-eqb o.number o.number refl)
 find_in n (x ∷ front) o rest l h = cond-false (eqb x.number o.number) _ _ (ne_eqb x.number o.number (λ e. omega arith)) ∙ find_in n front o rest l.1 h
 
 -- all that is left is taken: the order is dropped
-lower_in : (n : ℕ) (front : List Order) (o : Order) (rest : List Order) → All (λ x. x.number ≤ n) front → n < o.number → lower o.number o.left (front ++ o ∷ rest) ≡ front ++ rest
+lower_in : (n : ℕ) (front : List Order) (o : Order) (rest : List Order) → AllByRecursion (λ x. x.number ≤ n) front → n < o.number → lower o.number o.left (front ++ o ∷ rest) ≡ front ++ rest
 lower_in n [] o rest l h = cond-true (eqb o.number o.number) _ _ (eq-eqb o.number o.number refl) ∙ cond-true (leb o.left o.left) _ _ (le-leb o.left o.left (omega arith))
 lower_in n (x ∷ front) o rest l h = cond-false (eqb x.number o.number) _ _ (ne_eqb x.number o.number (λ e. omega arith)) ∙ ap (λ xs. x ∷ xs) (lower_in n front o rest l.1 h)
 
 -- the next order is the first of those above
-next_in : (n : ℕ) (front back : List Order) (o : Order) → All (λ x. x.number ≤ n) front → All (λ x. n < x.number) back → Some o ≡ next_above n (front ++ back) → (rest : List Order) × (back ≡ o ∷ rest)
+next_in : (n : ℕ) (front back : List Order) (o : Order) → AllByRecursion (λ x. x.number ≤ n) front → AllByRecursion (λ x. n < x.number) back → Some o ≡ next_above n (front ++ back) → (rest : List Order) × (back ≡ o ∷ rest)
 next_in n [] [] o l h e = let z : ◌≡◌ {A = ℕ} 0 1 = cc in absurd (omega arith)
 next_in n [] (x ∷ xs) o l h e =
     let f : Some o ≡ Some x = e ∙ cond-true (ltb n x.number) _ _ (lt-ltb n x.number h.0) in
@@ -51,7 +51,7 @@ next_in n [] (x ∷ xs) o l h e =
     (xs, ap (λ y. y ∷ xs) d)
 next_in n (x ∷ front) back o l h e = next_in n front back o l.1 h (e ∙ cond-false (ltb n x.number) _ _ (le-ltb n x.number l.0))
 
-none_in : (n : ℕ) (front back : List Order) → All (λ x. x.number ≤ n) front → All (λ x. n < x.number) back → None ≡ next_above n (front ++ back) → back ≡ []
+none_in : (n : ℕ) (front back : List Order) → AllByRecursion (λ x. x.number ≤ n) front → AllByRecursion (λ x. n < x.number) back → None ≡ next_above n (front ++ back) → back ≡ []
 none_in n [] [] l h e = refl
 none_in n [] (x ∷ xs) l h e =
     let f : None ≡ Some x = e ∙ cond-true (ltb n x.number) _ _ (lt-ltb n x.number h.0) in
@@ -99,7 +99,7 @@ module _ (p : Order → Bool) (rec : Order → TapeRecord) (at : ℕ) where
     here : last < o.number
     here = next_higher last os o e
 
-    beyond : (1 ≤ o.left) × All (λ x. o.number < x.number) rest
+    beyond : (1 ≤ o.left) × AllByRecursion (λ x. o.number < x.number) rest
     beyond = above 0 hi w.front o rest (subst (λ l. Standing 0 l hi) split st)
 
     -- it can be taken whole

@@ -12,8 +12,8 @@ returns-in-None c = next_none c.args.side c.args.orders.now c.args.k c.if-k-gt0.
 pub returns-in-None-2 : goal.returns-in-None-2
 returns-in-None-2 c =
     let z : c.args.k ≡ 0 = omega arith in
-    c.first-behind.ensures ∙ next_first c.args.side c.args.orders.now ∙ ap (λ k. place (k + 1) (ranked c.args.side c.args.orders.now)) (sym z)
+    c.first_behind.ensures ∙ next_first c.args.side c.args.orders.now ∙ ap (λ k. place (k + 1) (ranked c.args.side c.args.orders.now)) (sym z)
 
 pub returns-in-Some : goal.returns-in-Some
 returns-in-Some c =
-    c.first-behind-in-Some.ensures ∙ next_some c.args.side c.args.orders.now c.args.k c.in-Some.x (standing_distinct 0 max_number c.args.orders.now c.requires.standing) (sym c.in-Some.is ∙ c.requires.here)
+    c.first_behind-in-Some.ensures ∙ next_some c.args.side c.args.orders.now c.args.k c.in-Some.x (standing_distinct 0 max_number c.args.orders.now c.requires.standing) (sym c.in-Some.is ∙ c.requires.here)

@@ -4,8 +4,8 @@ use Rattle.session.specs.Views.{state}
 use Rattle.session.proofs.Fine.{Fine, withdraw_fine}
 use Rattle.session.proofs.steps.withdrawn.Goals as goal
 
-pub invariant-of-session : goal.invariant-of-session
-invariant-of-session g c =
+pub invariant_of-session : goal.invariant_of-session
+invariant_of-session g c =
     let s = c.args.session.now in
     let f = subst Fine (sym (c.withdraw.ensures.came (plain s.settings)).state) (withdraw_fine (state g.B.Book.orders g.B.Book.capacity s) (length c.args.tape.now) c.args.member c.args.number (s.called, s.reference)) in
-    (f.0, (f.1, tt))
+    record { called = f.0; reference = f.1 }

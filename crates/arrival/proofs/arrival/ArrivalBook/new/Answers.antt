@@ -3,5 +3,5 @@ use Rattle.rows.specs.Rows.{Held}
 use Rattle.arrival.proofs.Keeping.{held_none}
 use Rattle.arrival.proofs.arrival.ArrivalBook.new.Goals as goal
 
-pub invariant-of-result : goal.invariant-of-result
-invariant-of-result c = (omega arith, (∣ subst Held (sym (ap (λ n. take n c.new.result.rows.now) c.new.ensures.count)) held_none ∣₁, tt))
+pub invariant_of-result : goal.invariant_of-result
+invariant_of-result c = (omega arith, (∣ subst Held (sym (ap (λ n. take n c.new.result.rows.now) c.new.ensures.count)) held_none ∣₁, tt))

@@ -13,7 +13,7 @@ pub returns : goal.returns
 returns c =
     let b = c.args.self.now in
     let p = passes (Above c.args.number) in
-    c.as-standing.ensures
-    ∙ ap checked (c.first-of.ensures ∙ ap (λ os. first (filter p os)) c.orders.ensures)
+    c.as_standing.ensures
+    ∙ ap checked (c.first_of.ensures ∙ ap (λ os. first (filter p os)) c.orders.ensures)
     ∙ checked_first (filter p (standing_in b)) (all_kept_by p Bounded (standing_in b) (held_in b).bounded)
     ∙ above_first c.args.number (standing_in b)

@@ -11,13 +11,13 @@ use Rattle.arrival.specs.Checking.{checked}
 use Rattle.arrival.proofs.Scanning.{checked_place}
 use Rattle.arrival.proofs.operations.ArrivalBookBook.nth.Goals as goal
 
-pub nth-in-rank-requires : goal.nth-in-rank-requires
-nth-in-rank-requires c = subst (λ os. Standing 0 os max_number) (sym c.orders.ensures) (held_in c.args.self.now).standing
+pub nth_in_rank-requires : goal.nth_in_rank-requires
+nth_in_rank-requires c = subst (λ os. Standing 0 os max_number) (sym c.orders.ensures) (held_in c.args.self.now).standing
 
 pub returns : goal.returns
 returns c =
     let b = c.args.self.now in
     let s = c.args.side in
-    c.as-standing.ensures
-    ∙ ap checked (c.nth-in-rank.ensures ∙ ap (λ os. place c.args.n (ranked s os)) c.orders.ensures)
+    c.as_standing.ensures
+    ∙ ap checked (c.nth_in_rank.ensures ∙ ap (λ os. place c.args.n (ranked s os)) c.orders.ensures)
     ∙ checked_place c.args.n (ranked s (standing_in b)) (all_ranked Bounded s (standing_in b) (all_kept_by (of_side s) Bounded (standing_in b) (held_in b).bounded))

@@ -6,7 +6,7 @@ use Rattle.session.proofs.session.Session.call.Goals as goal
 pub returns-in-Random : goal.returns-in-Random
 returns-in-Random g c =
     let s = state g.B.Book.orders g.B.Book.capacity c.args.self.now in
-    let found = c.call-found.ensures in
+    let found = c.call_found.ensures in
     record {
       came = found.came;
       scratch = found.scratch;

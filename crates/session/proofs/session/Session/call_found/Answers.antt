@@ -9,12 +9,12 @@ use Rattle.session.specs.Views.{state}
 use Rattle.session.proofs.Fine.{Fine, call_fine}
 use Rattle.session.proofs.session.Session.call_found.Goals as goal
 
-pub invariant-of-self : goal.invariant-of-self
-invariant-of-self g c =
+pub invariant_of-self : goal.invariant_of-self
+invariant_of-self g c =
     let now = c.args.self.now in
     let s : State = state g.B.Book.orders g.B.Book.capacity now in
     let r : Rule = g.R.PriceRule.rule now.rule.below in
     let law : Lawful r = record { asymmetric = g.met.R.PriceRule.asymmetric now.rule.below; transitive = g.met.R.PriceRule.transitive now.rule.below } in
     let after : State = view (plain now.settings) c.call.new.day (g.B.Book.orders c.call.new.book) (g.B.Book.capacity c.call.new.book) in
     let fine : Fine after = subst Fine (sym c.call.ensures.came.state) (call_fine r law s (valid now.settings) (length c.args.tape.now) (length c.args.scratch.now) (now.called, now.reference)) in
-    (fine.0, (fine.1, tt))
+    record { called = fine.0; reference = fine.1 }

@@ -5,7 +5,7 @@ use Rattle.session.proofs.session.Session.new.Goals as goal
 
 pub returns-in-Err : goal.returns-in-Err
 returns-in-Err g c = (
-  sym (settings_refused (given c.args.tick c.args.indicative c.args.absolute c.args.static-band) c.args.last-number _ c.in-Err.why c.in-Err.ensures),
+  sym (settings_refused (given c.args.tick c.args.indicative c.args.absolute c.args.static_band) c.args.last_number _ c.in-Err.why c.in-Err.ensures),
   refl,
   refl,
 )

@@ -6,11 +6,12 @@ use Rattle.session.proofs.session.Session.strike.Goals as goal
 pub returns : goal.returns
 returns g c =
     let s = state g.B.Book.orders g.B.Book.capacity c.args.self.now in
-    let struck = c.strike-checked.ensures in
+    let struck = c.strike_checked.ensures in
     record {
       came = struck.came;
       token = struck.token;
-      kept = strike_kept s (length c.args.tape.now) c.args.called.now.price c.args.called.now.quantity c.strike-checked.result _ _ _ _ struck.came;
+      price = struck.price;
+      kept = strike_kept s (length c.args.tape.now) c.args.called.now.price c.args.called.now.quantity c.strike_checked.result _ _ _ _ struck.came;
       sound = λ h. subst Sound (sym struck.came.state) (strike_sound s (length c.args.tape.now) c.args.called.now.price c.args.called.now.quantity h);
       rule = struck.rule;
     }

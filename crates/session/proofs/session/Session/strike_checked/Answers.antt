@@ -7,10 +7,10 @@ use Rattle.session.specs.Views.{state}
 use Rattle.session.proofs.Fine.{Fine, strike_fine}
 use Rattle.session.proofs.session.Session.strike_checked.Goals as goal
 
-pub invariant-of-self : goal.invariant-of-self
-invariant-of-self g c =
+pub invariant_of-self : goal.invariant_of-self
+invariant_of-self g c =
     let now = c.args.self.now in
     let s : State = state g.B.Book.orders g.B.Book.capacity now in
-    let after : State = view (plain now.settings) c.strike-called.new.day (g.B.Book.orders c.strike-called.new.book) (g.B.Book.capacity c.strike-called.new.book) in
-    let fine : Fine after = subst Fine (sym c.strike-called.ensures.came.state) (strike_fine s (valid now.settings) (length c.args.tape.now) c.args.called.now.price c.args.called.now.quantity (now.called, now.reference)) in
-    (fine.0, (fine.1, tt))
+    let after : State = view (plain now.settings) c.strike_called.new.day (g.B.Book.orders c.strike_called.new.book) (g.B.Book.capacity c.strike_called.new.book) in
+    let fine : Fine after = subst Fine (sym c.strike_called.ensures.came.state) (strike_fine s (valid now.settings) (length c.args.tape.now) c.args.called.now.price c.args.called.now.quantity (now.called, now.reference)) in
+    record { called = fine.0; reference = fine.1 }
