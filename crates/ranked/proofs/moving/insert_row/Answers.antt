@@ -22,8 +22,8 @@ loop-j-preserved c =
     let up : suc (j - i) ≡ (j + 1) - i = omega arith in
     let from : i ≤ j = omega arith in
     let rest = paste_rest v w s i j j blank from (omega arith) (omega arith) (omega arith) c.loop-j.invariant.0 in
-    let next = c.exchange-row-moved.ensures.stood ∙ rest ∙ ap (λ k. get_or v k blank) (sym to) ∙ sym (get_or-drop i v (j - i) blank) ∙ ap (λ k. get_or s k blank) up in
-    (c.exchange-row-moved.ensures.after ∙ paste_step v w s i j blank c.loop-j.moved from (omega arith) (omega arith) c.loop-j.invariant.1 c.loop-j.invariant.0, next)
+    let next = c.exchange_row-moved.ensures.stood ∙ rest ∙ ap (λ k. get_or v k blank) (sym to) ∙ sym (get_or-drop i v (j - i) blank) ∙ ap (λ k. get_or s k blank) up in
+    (c.exchange_row-moved.ensures.after ∙ paste_step v w s i j blank c.loop-j.moved from (omega arith) (omega arith) c.loop-j.invariant.1 c.loop-j.invariant.0, next)
 
 pub returns : goal.returns
 returns c =

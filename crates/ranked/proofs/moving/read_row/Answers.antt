@@ -5,5 +5,5 @@ use Rattle.ranked.proofs.moving.read_row.Goals as goal
 
 pub returns : goal.returns
 returns c =
-    ap (λ k. get_or c.args.rows.now k blank) c.row-index-at.ensures
+    ap (λ k. get_or c.args.rows.now k blank) c.row_index-at.ensures
     ∙ sym (view_at c.args.side c.args.rows.now c.args.i blank c.requires)

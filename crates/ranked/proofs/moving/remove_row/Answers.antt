@@ -21,4 +21,4 @@ loop-j-preserved c =
     let from : i ≤ j = omega arith in
     let rest = paste_rest v w s i j (j + 1) blank from (omega arith) (omega arith) (omega arith) c.loop-j.invariant in
     let next = rest ∙ ap (λ k. get_or v k blank) (sym up) ∙ sym (get_or-drop (suc i) v (j - i) blank) in
-    c.pull-row.ensures ∙ paste_step v w s i j blank (get_or w (j + 1) blank) from (omega arith) (omega arith) next c.loop-j.invariant
+    c.pull_row.ensures ∙ paste_step v w s i j blank (get_or w (j + 1) blank) from (omega arith) (omega arith) next c.loop-j.invariant

@@ -8,7 +8,7 @@ use Rattle.arrival.specs.Books.{standing_in, held_in}
 use Rattle.arrival.proofs.Keeping.{Becomes, located, turned}
 use Rattle.arrival.proofs.Scanning.{found_at, found_none}
 use Rattle.arrival.proofs.operations.ArrivalBookBook.turn.Goals as goal
-use Rattle.arrival.proofs.operations.ArrivalBookBook.turn.Goals.{at·returns-then-not-can_turn, at·returns, After-can_turn, After-limit}
+use Rattle.arrival.proofs.operations.ArrivalBookBook.turn.Goals.{at-returns-then-not-can_turn, at-returns, After-can_turn, After-limit}
 
 pub returns-then-i-orders : goal.returns-then-i-orders
 returns-then-i-orders c =
@@ -22,7 +22,7 @@ asked c =
     c.can_turn.ensures ∙ sym (ap (can_turn c.args.price) found)
 
 pub returns-then-not-can_turn : goal.returns-then-not-can_turn
-returns-then-not-can_turn c = record { answer = sym c.if-not-can_turn.true ∙ asked (at·returns-then-not-can_turn c).After-can_turn; after = refl; room = refl }
+returns-then-not-can_turn c = record { answer = sym c.if-not-can_turn.true ∙ asked (at-returns-then-not-can_turn c).After-can_turn; after = refl; room = refl }
 
 -- the order gets its limit price
 limited : (c : goal.After-limit) → Becomes c.args.self.now.front c.limit.new.self (turn c.args.number c.args.price (standing_in c.args.self.now))
@@ -36,9 +36,9 @@ limited c =
     turned b.front c.limit.new.self c.args.number i (get_or os i blank) b.fits (held_in b) at c.args.price (leb-true 1 c.args.price range.0) (leb-true c.args.price max_price range.1) c.limit.ensures.count c.limit.ensures.rows
 
 pub invariant_of-self : goal.invariant_of-self
-invariant_of-self c = ((limited c).ranges, (∣ (limited c).held ∣₁, tt))
+invariant_of-self c = record { fits = (limited c).fits; held = ∣ (limited c).held ∣₁ }
 
 pub returns : goal.returns
 returns c =
-    let b = limited (at·returns c).After-limit in
-    record { answer = sym c.if-not-can_turn.false ∙ asked (at·returns c).After-can_turn; after = b.after; room = b.room }
+    let b = limited (at-returns c).After-limit in
+    record { answer = sym c.if-not-can_turn.false ∙ asked (at-returns c).After-can_turn; after = b.after; room = b.room }

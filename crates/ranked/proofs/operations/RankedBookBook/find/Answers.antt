@@ -9,7 +9,7 @@ returns-in-Some c =
     let p = c.in-Some.at in
     let x = c.at.result in
     let here = stands b.sides c.args.number p x b.fits (rank_in b) c.in-Some.ensures c.at.ensures in
-    c.standing-of.ensures ∙ checked b.sides p.side p.index x (rank_in b) here.within c.at.ensures ∙ sym (found b.sides c.args.number p x here)
+    c.standing_of.ensures ∙ checked b.sides p.side p.index x (rank_in b) here.within c.at.ensures ∙ sym (found b.sides c.args.number p x here)
 
 pub returns-in-None : goal.returns-in-None
 returns-in-None c = sym (missing c.args.self.now.sides c.args.number c.in-None.ensures)

@@ -12,7 +12,7 @@ use Rattle.ranked.proofs.Outcomes.{turned}
 use Rattle.ranked.proofs.Replies.{some_if, none_if}
 use Rattle.ranked.proofs.Tops.{below_turn}
 use Rattle.ranked.proofs.operations.RankedBookBook.turn.Goals as goal
-use Rattle.ranked.proofs.operations.RankedBookBook.turn.Goals.{at·returns-in-default-after-turn, at·ghost-self, at·returns, After-at-order, In-Some-after-turn, After-enter}
+use Rattle.ranked.proofs.operations.RankedBookBook.turn.Goals.{at-returns-in-default-after-turn, at-invariant_of-self, at-returns, After-at-order, In-Some-after_turn, After-enter}
 
 -- the order that was found
 here : (c : goal.After-at-order) → Stands c.args.self.now.sides c.args.number c.in-Some.at c.at-order.result
@@ -24,40 +24,45 @@ under : (c : goal.After-at-order) → find c.args.number (meaning c.args.self.no
 under c = found c.args.self.now.sides c.args.number c.in-Some.at c.at-order.result (here c)
 
 -- it may be turned, and what becomes of it
-limited : (c : goal.In-Some-after-turn) → (can_turn c.args.price (Some c.at-order.result) ≡ true) × (c.in-Some-after-turn.limited ≡ with_price c.at-order.result (Limit c.args.price))
-limited c = some_if (can_turn c.args.price (Some c.at-order.result)) c.in-Some-after-turn.limited (with_price c.at-order.result (Limit c.args.price)) c.in-Some-after-turn.ensures
+limited : (c : goal.In-Some-after_turn) → (can_turn c.args.price (Some c.at-order.result) ≡ true) × (c.in-Some-after_turn.limited ≡ with_price c.at-order.result (Limit c.args.price))
+limited c = some_if (can_turn c.args.price (Some c.at-order.result)) c.in-Some-after_turn.limited (with_price c.at-order.result (Limit c.args.price)) c.in-Some-after_turn.ensures
 
-pub returns-in-default : goal.returns-in-default
-returns-in-default c = record { answer = sym (ap (can_turn c.args.price) (missing c.args.self.now.sides c.args.number c.in-default.ensures)); after = refl; room = refl }
+pub returns-in_default : goal.returns-in_default
+returns-in_default c = record { answer = sym (ap (can_turn c.args.price) (missing c.args.self.now.sides c.args.number c.in_default.ensures)); after = refl; room = refl }
 
-pub returns-in-default-after-turn : goal.returns-in-default-after-turn
-returns-in-default-after-turn c =
+pub returns-in_default-after_turn : goal.returns-in_default-after_turn
+returns-in_default-after_turn c =
     let x = c.at-order.result in
     let p = c.args.price in
     record {
-      answer = sym (ap (can_turn p) (under (at·returns-in-default-after-turn c).After-at-order) ∙ none_if (can_turn p (Some x)) (with_price x (Limit p)) c.in-default-after-turn.ensures);
+      answer = sym (ap (can_turn p) (under (at-returns-in-default-after-turn c).After-at-order) ∙ none_if (can_turn p (Some x)) (with_price x (Limit p)) c.in_default-after_turn.ensures);
       after = refl;
       room = refl;
     }
 
 again : (c : goal.After-enter) → Becomes c.enter.new.self (turn c.args.number c.args.price (meaning c.args.self.now.sides))
 again c =
-    let made = limited (at·ghost-self c).In-Some-after-turn in
-    turned c.args.self.now.sides c.args.number c.in-Some.at c.at-order.result (here (at·ghost-self c).After-at-order) c.remove.new.self c.enter.new.self c.args.price c.in-Some-after-turn.limited made.1
+    let made = limited (at-invariant_of-self c).In-Some-after_turn in
+    turned c.args.self.now.sides c.args.number c.in-Some.at c.at-order.result (here (at-invariant_of-self c).After-at-order) c.remove.new.self c.enter.new.self c.args.price c.in-Some-after_turn.limited made.1
     (and_parts (is_market c.at-order.result.price) (in_range 1 max_price c.args.price) made.0).1
     c.remove.ensures.after
     c.enter.ensures.after
 
-pub invariant-of-self : goal.invariant-of-self
-invariant-of-self c =
+pub invariant_of-self : goal.invariant_of-self
+invariant_of-self c =
     let top = c.args.self.now.top in
-    (c.enter.ensures.fits, (omega (arith, c.enter.ensures.room, c.remove.ensures.room, c.args.self.now.small), (∣ (again c).1 ∣₁, (subst (λ os. all_below os (top + 1) ≡ true) (sym (again c).0) (below_turn (top + 1) c.args.number c.args.price (meaning c.args.self.now.sides) c.args.self.now.below), tt))))
+    record {
+      fits = c.enter.ensures.fits;
+      small = omega (arith, c.enter.ensures.room, c.remove.ensures.room, c.args.self.now.small);
+      in_rank = ∣ (again c).1 ∣₁;
+      below = subst (λ os. all_below os (top + 1) ≡ true) (sym (again c).0) (below_turn (top + 1) c.args.number c.args.price (meaning c.args.self.now.sides) c.args.self.now.below);
+    }
 
 pub returns : goal.returns
 returns c =
-    let before = at·returns c in
+    let before = at-returns c in
     record {
-      answer = sym (ap (can_turn c.args.price) (under before.After-at-order) ∙ (limited before.In-Some-after-turn).0);
+      answer = sym (ap (can_turn c.args.price) (under before.After-at-order) ∙ (limited before.In-Some-after_turn).0);
       after = (again before.After-enter).0;
       room = c.enter.ensures.room ∙ c.remove.ensures.room;
     }

@@ -10,4 +10,4 @@ unfolding queue
 returns c =
     let h = c.args.self.now in
     let s = c.args.side in
-    c.read-row.ensures ∙ sym (get_or-take (count_of s h) (view s h.rows.now) c.args.i blank c.requires.within)
+    c.read_row.ensures ∙ sym (get_or-take (count_of s h) (view s h.rows.now) c.args.i blank c.requires.within)

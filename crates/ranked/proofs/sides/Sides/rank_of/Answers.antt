@@ -9,13 +9,13 @@ pub loop-i-preserved : goal.loop-i-preserved
 loop-i-preserved c =
     let q = queue c.args.side c.args.self.now in
     let n = length_queue c.args.side c.args.self.now c.requires in
-    rank_on c.args.side c.args.order q _ c.loop-i.i blank c.at.result c.loop-i.invariant (omega (arith, c.len-count.ensures)) c.at.ensures c.if-comes-before.ensures
+    rank_on c.args.side c.args.order q _ c.loop-i.i blank c.at.result c.loop-i.invariant (omega (arith, c.len-count.ensures)) c.at.ensures c.if-comes_before.ensures
 
-pub returns-then-comes-before : goal.returns-then-comes-before
-returns-then-comes-before c =
+pub returns-then-comes_before : goal.returns-then-comes_before
+returns-then-comes_before c =
     let q = queue c.args.side c.args.self.now in
     let n = length_queue c.args.side c.args.self.now c.requires in
-    rank_here c.args.side c.args.order q _ c.loop-i.i blank c.at.result c.loop-i.invariant (omega (arith, c.len-count.ensures)) c.at.ensures c.if-comes-before.ensures
+    rank_here c.args.side c.args.order q _ c.loop-i.i blank c.at.result c.loop-i.invariant (omega (arith, c.len-count.ensures)) c.at.ensures c.if-comes_before.ensures
 
 pub returns : goal.returns
 returns c =

@@ -12,9 +12,9 @@ returns c =
     let n = c.len-end.ensures in
     let own = c.shrink.ensures.own_val in
     let others = c.shrink.ensures.others in
-    let l : length k.rows.now ≡ length h.rows.now = ap length c.shrink.ensures.rows ∙ c.remove-row.auto.rows in
+    let l : length k.rows.now ≡ length h.rows.now = ap length c.shrink.ensures.rows ∙ c.remove_row.auto.rows in
     record {
       free = free_by s k (omega arith);
-      after = taken_out s h k c.args.i _ c.requires.fits (omega arith) (omega arith) (record { rows = l; others = others }) (omega arith) (ap (view s) c.shrink.ensures.rows ∙ c.remove-row.ensures);
+      after = taken_out s h k c.args.i _ c.requires.fits (omega arith) (omega arith) (record { rows = l; others = others }) (omega arith) (ap (view s) c.shrink.ensures.rows ∙ c.remove_row.ensures);
       room = l;
     }

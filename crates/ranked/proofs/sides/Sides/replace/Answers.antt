@@ -7,10 +7,10 @@ use Rattle.ranked.proofs.sides.Sides.replace.Goals as goal
 pub returns : goal.returns
 returns c =
     let h = c.args.self.now in
-    let k : Sides = record { rows = set_vals c.write-row.new.rows h.rows; buys = h.buys; sells = h.sells } in
-    let l = c.write-row.auto.rows in
+    let k : Sides = record { rows = set_vals c.write_row.new.rows h.rows; buys = h.buys; sells = h.sells } in
+    let l = c.write_row.auto.rows in
     record {
       fits = omega arith;
-      after = replaced c.args.side h k c.args.i c.args.order c.requires.fits c.requires.within (record { rows = l; others = refl }) refl c.write-row.ensures;
+      after = replaced c.args.side h k c.args.i c.args.order c.requires.fits c.requires.within (record { rows = l; others = refl }) refl c.write_row.ensures;
       room = l;
     }
