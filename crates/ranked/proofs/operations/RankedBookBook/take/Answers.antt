@@ -9,7 +9,7 @@ use Rattle.ranked.proofs.Outcomes.{used_up, lessened}
 use Rattle.ranked.proofs.Replies.{some_if, none_if}
 use Rattle.ranked.proofs.Tops.{below_lower}
 use Rattle.ranked.proofs.operations.RankedBookBook.take.Goals as goal
-use Rattle.ranked.proofs.operations.RankedBookBook.take.Goals.{at-returns-in-default-after-take, at-invariant_of-self, at-invariant_of-self-2, at-returns-then-rest-eq0, at-returns, After-at-order, In-Some-after_take, After-remove, After-replace}
+use Rattle.ranked.proofs.operations.RankedBookBook.take.Goals.{at-returns-in_default-after_take, at-invariant_of-self, at-invariant_of-self-2, at-returns-then-rest-eq0, at-returns, After-at-order, In-Some-after_take, After-remove, After-replace}
 
 -- the order that was found
 here : (c : goal.After-at-order) → Stands c.args.self.now.sides c.args.number c.in-Some.at c.at-order.result
@@ -32,7 +32,7 @@ returns-in_default-after_take c =
     let x = c.at-order.result in
     let q = c.args.amount in
     record {
-      answer = sym (ap (can_take q) (under (at-returns-in-default-after-take c).After-at-order) ∙ none_if (can_take q (Some x)) (with_left x (x.left - q)) c.in_default-after_take.ensures);
+      answer = sym (ap (can_take q) (under (at-returns-in_default-after_take c).After-at-order) ∙ none_if (can_take q (Some x)) (with_left x (x.left - q)) c.in_default-after_take.ensures);
       after = refl;
       room = refl;
     }

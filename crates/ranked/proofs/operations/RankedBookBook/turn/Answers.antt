@@ -12,7 +12,7 @@ use Rattle.ranked.proofs.Outcomes.{turned}
 use Rattle.ranked.proofs.Replies.{some_if, none_if}
 use Rattle.ranked.proofs.Tops.{below_turn}
 use Rattle.ranked.proofs.operations.RankedBookBook.turn.Goals as goal
-use Rattle.ranked.proofs.operations.RankedBookBook.turn.Goals.{at-returns-in-default-after-turn, at-invariant_of-self, at-returns, After-at-order, In-Some-after_turn, After-enter}
+use Rattle.ranked.proofs.operations.RankedBookBook.turn.Goals.{at-returns-in_default-after_turn, at-invariant_of-self, at-returns, After-at-order, In-Some-after_turn, After-enter}
 
 -- the order that was found
 here : (c : goal.After-at-order) → Stands c.args.self.now.sides c.args.number c.in-Some.at c.at-order.result
@@ -35,7 +35,7 @@ returns-in_default-after_turn c =
     let x = c.at-order.result in
     let p = c.args.price in
     record {
-      answer = sym (ap (can_turn p) (under (at-returns-in-default-after-turn c).After-at-order) ∙ none_if (can_turn p (Some x)) (with_price x (Limit p)) c.in_default-after_turn.ensures);
+      answer = sym (ap (can_turn p) (under (at-returns-in_default-after_turn c).After-at-order) ∙ none_if (can_turn p (Some x)) (with_price x (Limit p)) c.in_default-after_turn.ensures);
       after = refl;
       room = refl;
     }

@@ -16,7 +16,7 @@ returns c =
     let others = c.grow.ensures.others in
     let rows = ap (view s) c.grow.ensures.rows ∙ c.insert_row.ensures ∙ ap (λ m. paste v i (c.args.order ∷ drop i v) (suc m - i)) c.len-end.ensures in
     record {
-      fits = fits_by s k (omega (arith, c.grow.ensures.own_val));
-      after = put_in s h k i c.args.order f c.requires.within (record { rows = l; others = others }) c.grow.ensures.own_val rows;
+      fits = fits_by s k (omega (arith, c.grow.ensures.own));
+      after = put_in s h k i c.args.order f c.requires.within (record { rows = l; others = others }) c.grow.ensures.own rows;
       room = l;
     }

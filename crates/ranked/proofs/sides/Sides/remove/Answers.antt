@@ -10,7 +10,7 @@ returns c =
     let s = c.args.side in
     let f = room_of s h c.requires.fits in
     let n = c.len-end.ensures in
-    let own = c.shrink.ensures.own_val in
+    let own = c.shrink.ensures.own in
     let others = c.shrink.ensures.others in
     let l : length k.rows.now ≡ length h.rows.now = ap length c.shrink.ensures.rows ∙ c.remove_row.auto.rows in
     record {
