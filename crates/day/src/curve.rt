@@ -1,5 +1,5 @@
 use model::Point;
-use std::fmt;
+use std::alloc::AllocError;
 
 // Neighbouring grid prices with the same demand and supply share a row.
 #[derive(Clone, Copy)]
@@ -9,7 +9,7 @@ struct Row {
 }
 
 // The curve as a table, with a bar for what trades (#) and for what is left over (-), a mark for every 5.
-pub(crate) fn show_curve(page: &mut String, points: &[Point]) -> fmt::Result {
+pub(crate) fn show_curve(page: &mut String, points: &[Point]) -> Result<(), AllocError> {
     writeln!(page, "             prices  demand  supply  traded")?;
     let mut row: Option<Row> = None;
     for point in points {
@@ -22,7 +22,7 @@ pub(crate) fn show_curve(page: &mut String, points: &[Point]) -> fmt::Result {
 }
 
 // The row with one point more; where the point differs, the row is written and another begins.
-fn next_row(page: &mut String, row: Option<Row>, point: Point) -> Result<Row, fmt::Error> {
+fn next_row(page: &mut String, row: Option<Row>, point: Point) -> Result<Row, AllocError> {
     let Some(row) = row else {
         return Ok(Row {
             from: point.price,
@@ -42,7 +42,7 @@ fn next_row(page: &mut String, row: Option<Row>, point: Point) -> Result<Row, fm
     })
 }
 
-fn show_row(page: &mut String, row: Row) -> fmt::Result {
+fn show_row(page: &mut String, row: Row) -> Result<(), AllocError> {
     let from = row.from;
     let to = row.last.price;
     let demand = row.last.demand;
@@ -57,7 +57,7 @@ fn show_row(page: &mut String, row: Row) -> fmt::Result {
     writeln!(page)
 }
 
-fn show_marks(page: &mut String, mark: &str, quantity: u64) -> fmt::Result {
+fn show_marks(page: &mut String, mark: &str, quantity: u64) -> Result<(), AllocError> {
     for _ in 0..(quantity / 5).min(40) {
         write!(page, "{mark}")?;
     }

@@ -1,6 +1,6 @@
 use crate::words::reason_words;
 use model::TapeRecord;
-use std::fmt;
+use std::alloc::AllocError;
 
 // The records of the tape from one place up to another, a line each.
 pub(crate) fn show_records(
@@ -8,7 +8,7 @@ pub(crate) fn show_records(
     tape: &[TapeRecord],
     from: usize,
     to: usize,
-) -> fmt::Result {
+) -> Result<(), AllocError> {
     for i in from..to {
         if let Some(record) = tape.get(i) {
             show_record(page, *record)?;
@@ -17,7 +17,7 @@ pub(crate) fn show_records(
     Ok(())
 }
 
-fn show_record(page: &mut String, record: TapeRecord) -> fmt::Result {
+fn show_record(page: &mut String, record: TapeRecord) -> Result<(), AllocError> {
     match record {
         TapeRecord::Trade {
             buy,

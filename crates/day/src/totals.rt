@@ -1,6 +1,6 @@
 use book::Book;
 use model::{Answer, Call, TapeRecord};
-use std::fmt;
+use std::alloc::AllocError;
 
 // What the tape shows of an order.
 #[derive(Clone, Copy)]
@@ -57,7 +57,7 @@ pub(crate) fn show_totals<B: Book>(
     calls: &[Call],
     answers: &[Answer],
     tape: &[TapeRecord],
-) -> fmt::Result {
+) -> Result<(), AllocError> {
     writeln!(page, "   order  quantity =  traded + withdrawn + standing")?;
     for (call, answer) in calls.iter().zip(answers.iter()) {
         if let Call::Enter(entry) = call {
@@ -75,7 +75,7 @@ fn show_total<B: Book>(
     number: u64,
     quantity: u64,
     tape: &[TapeRecord],
-) -> fmt::Result {
+) -> Result<(), AllocError> {
     let shown = shown_of(number, tape);
     let standing = match book.find(number) {
         Some(order) => order.left,

@@ -120,6 +120,6 @@ pub(crate) fn expect(
             calls,
         )?,
     };
-    assert!(rt; shown == outcome, "{}", outcome);
+    assert!(rt; shown.as_str() == outcome, "{}", outcome);
     Ok(())
 }
