@@ -1,6 +1,6 @@
 ghost use Rattle.std.specs.Prelude.{◌≡◌, MatchResult};
 ghost use Rattle.model.specs.Numbers.{code, no_refusal};
-ghost use Rattle.model.specs.Making.{is_empty, make_refusal, made, New};
+ghost use Rattle.model.specs.Making.{make_refusal, made, New};
 ghost use Rattle.grid.specs.Views.{given};
 ghost use Rattle.session.specs.Views.{state, Sound};
 
@@ -27,7 +27,8 @@ impl<B: Book, R: PriceRule> Session<B, R> {
             Ok(settings) => settings,
             Err(why) => return Err((why, book, rule)),
         };
-        if !is_empty(&book) {
+        let (count, _) = book.count();
+        if count > 0 {
             return Err((Refusal::BookNotEmpty, book, rule));
         }
         Ok(Session {
@@ -42,12 +43,4 @@ impl<B: Book, R: PriceRule> Session<B, R> {
             },
         })
     }
-}
-
-// Whether no order stands.
-fn is_empty<B: Book>(book: &B) -> bool
-    ensures { result ≡ is_empty (B.orders book.now) }
-{
-    let (count, _) = book.count();
-    count == 0
 }
