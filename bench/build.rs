@@ -5,14 +5,14 @@ use std::path::PathBuf;
 use std::process::Command;
 
 /// The kit's C functions, which every archive of Rattle is linked with.
-const NEEDED: &str = "rattle_c";
+const NEEDED: [&str; 2] = ["os_c", "libc_c"];
 
-/// The folder with the kit's libraries: `rt doc` prints the path of a page in a folder beside it.
+/// The folder with the kit's C libraries: `rt doc` prints the path of a page beside it.
 fn kit_libraries() -> PathBuf {
     let said = Command::new("rt").arg("doc").output().expect("rt, the Rattle kit's command, is on the path");
     let page = PathBuf::from(String::from_utf8_lossy(&said.stdout).trim());
-    match page.parent().and_then(|docs| docs.parent()) {
-        Some(kit) => kit.join("lib"),
+    match page.parent() {
+        Some(kit) => kit.join("c"),
         None => panic!("rt doc printed no path"),
     }
 }
@@ -25,7 +25,7 @@ fn main() {
     }
     let folder = match env::var_os("NOGDRUT_LIB") {
         Some(folder) => PathBuf::from(folder),
-        None => PathBuf::from(env::var_os("CARGO_MANIFEST_DIR").unwrap()).join("../target/staticlib"),
+        None => PathBuf::from(env::var_os("CARGO_MANIFEST_DIR").unwrap()).join("../crates/exports/out"),
     };
     let archive = folder.join("libexports.a");
     println!("cargo:rerun-if-changed={}", archive.display());
@@ -41,5 +41,7 @@ fn main() {
     // Handed to the linker as it is, not packed into this library first.
     println!("cargo:rustc-link-lib=static:-bundle=exports");
     println!("cargo:rustc-link-search=native={}", kit_libraries().display());
-    println!("cargo:rustc-link-lib=static:-bundle={NEEDED}");
+    for library in NEEDED {
+        println!("cargo:rustc-link-lib=static:-bundle={library}");
+    }
 }
