@@ -11,7 +11,7 @@ OWN_WORDS = {'book', 'arrival', 'ranked', 'rows'}
 def members(text):
     out = []
     for line in text.split('\n'):
-        if re.match(r'\s*(ensures|requires|ghost \w+:)', line) and '{' in line:
+        if re.match(r'\s*(ensures|requires|ghost \w+ ?[:=])', line) and '{' in line:
             at = line.index('{')
             head, clause = line[:at], line[at:]
             clause = re.sub(r'(?<![\w.])state orders capacity\b', 'state B.orders B.capacity', clause)

@@ -1,12 +1,10 @@
 -- A whole day: a session that is made, and a list that it runs.
-use Rattle.std.specs.Prelude.{◌≡◌, ℕ, zero, suc, List, length, Ok, Err, Result}
+use Rattle.std.specs.Prelude.{◌≡◌, ℕ, zero, suc, List, length}
 use Rattle.model.specs.declared.types.Answer.{Answer}
 use Rattle.model.specs.declared.types.Call.{Call}
 use Rattle.model.specs.declared.types.Order.{Order}
 use Rattle.model.specs.declared.types.Point.{Point}
-use Rattle.model.specs.declared.types.Refusal.{Refusal}
 use Rattle.model.specs.declared.types.TapeRecord.{TapeRecord}
-use Rattle.model.specs.Numbers.{code, no_refusal}
 use Rattle.model.specs.Grid.{Settings}
 use Rattle.model.specs.Rules.{Rule}
 use Rattle.model.specs.State.{State}

@@ -107,7 +107,7 @@ strike s tape p v =
     let o : Outcome = struck s p v in
     unless (ask_called s.phase p v (ask (fits s tape o.records) TapeFull no_refusal)) s o
 
--- a put_back returns to the random period
+-- a put-back returns to the random period
 abbrev pub put_back : State → ℕ → ℕ → Outcome
 put_back s p v = unless (ask_called s.phase p v no_refusal) s (begun s)
 

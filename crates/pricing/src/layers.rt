@@ -11,7 +11,7 @@ pub struct MostTraded<R> {
 }
 
 impl<R: PriceRule> PriceRule for MostTraded<R> {
-    ghost rule = { λ r. most_traded (R.PriceRule.rule r.below) };
+    ghost rule = { λ r. most_traded (R.rule r.below) };
 
     ghost asymmetric = { Prim.search rules };
 
@@ -36,7 +36,7 @@ pub struct LeastSurplus<R> {
 }
 
 impl<R: PriceRule> PriceRule for LeastSurplus<R> {
-    ghost rule = { λ r. least_surplus (R.PriceRule.rule r.below) };
+    ghost rule = { λ r. least_surplus (R.rule r.below) };
 
     ghost asymmetric = { Prim.search rules };
 

@@ -1,4 +1,4 @@
--- An auction as a call for a price, and then its strike or its put_back.
+-- An auction as a call for a price, and then its strike or its put-back.
 use Rattle.std.proofs.Common.{◌≡◌, ℕ, zero, suc, ◌+◌, ◌<◌, Bool, true, ◌&&◌, eqb, List, length, Some, None, Ok, Err, Result, sym, refl, ap, ◌∙◌, subst, add-zero, arith}
 use Rattle.std.proofs.lemmas.Bool.{eq-eqb, false≢true}
 use Rattle.model.specs.declared.types.Phase.{Phase}
@@ -128,7 +128,7 @@ module _ (r : Rule) (s s₁ : State) (scratch : ℕ) (before tape₁ : List Tape
             ap (λ z. put_back s₂ z.price z.quantity) w ∙ ap (λ z. put_back z t.price t.quantity) left_is
             ∙ ap (λ z. put_back st z t.quantity) told.2 ∙ ap (λ z. put_back st x.price z) told.3 ∙ put_back_called st x.price (traded x) refl
 
-        -- a strike that is refused, and its put_back
+        -- a strike that is refused, and its put-back
         pub auction_back : (t' : CalledPrice) (s₃ : State) → is_random s.phase ≡ true → t' ≡ t → s₃ ≡ (put_back s₂ t'.price t'.quantity).state → Came auctioned (Err e) s₃ before s.used tape₂
         auction_back t' s₃ random w b =
             let h' = struck_is (Err e) h in

@@ -7,7 +7,7 @@ use Rattle.model.specs.declared.types.Refusal.{Refusal}
 use Rattle.model.specs.declared.types.TapeRecord.{TapeRecord}
 use Rattle.model.specs.Rules.{Rule}
 use Rattle.model.specs.Making.{Valid}
-use Rattle.model.specs.State.{State, Outcome}
+use Rattle.model.specs.State.{State}
 use Rattle.model.specs.Auction.{call_price, trades_at}
 use Rattle.model.specs.Calls.{is_market_order, unpriced, call_result, call, begun, struck, strike, put_back}
 use Rattle.model.specs.Run.{step}

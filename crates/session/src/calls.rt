@@ -14,7 +14,7 @@ use model::{Phase, Point, Refusal, TapeRecord};
 use pricing::PriceRule;
 
 impl<B: Book, R: PriceRule> Session<B, R> {
-    // Calls the price that the rule finds, which then waits for its strike or its put_back, and answers it.
+    // Calls the price that the rule finds, which then waits for its strike or its put-back, and answers it.
     // Where nothing trades at any grid price, withdraws the market orders and begins trading.
     // The scratch holds the curve after it, unless the call is refused before it looks for a price.
     pub fn call(
