@@ -1,7 +1,7 @@
 // Prints a day on both tables and under both rules, and the opening prices of some small books.
 #![tactic(auto)]
 
-mod curve;
+mod chart;
 mod days;
 mod entries;
 mod lists;

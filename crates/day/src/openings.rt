@@ -1,4 +1,4 @@
-use crate::curve::show_curve;
+use crate::chart::show_curve;
 use crate::entries::{buy, market, sell};
 use crate::lists::{Listed, run_list, show_refusal};
 use crate::tables::{NO_ORDER, Table};

@@ -1,4 +1,4 @@
-use crate::curve::show_curve;
+use crate::chart::show_curve;
 use crate::records::show_records;
 use crate::totals::show_totals;
 use crate::words::{answer_words, call_words, phase_words, refusal_words};
