@@ -1,48 +1,90 @@
 -- The orders of a side one after another in rank, each found by one scan.
-use Rattle.std.proofs.Common.{◌≡◌, ℕ, zero, suc, ◌+◌, ◌-◌, ◌<◌, ◌≤◌, Bool, true, false, List, [], ◌∷◌, length, get_or, drop, Some, None, filter, Option, sym, refl, ap, ◌∙◌, subst, ⊎_elim, add-one, arith}
-use Rattle.std.specs.List.{AllByRecursion}
+use Rattle.std.proofs.Common.{◌≡◌, ℕ, zero, suc, ◌+◌, ◌<◌, Bool, true, false, cond, ◌&&◌, List, [], ◌∷◌, length, drop, Some, None, filter, Option, sym, refl, ap, ◌∙◌, subst, ⊎_elim, add-one, arith}
+use Rattle.std.specs.List.{AllByRecursion, fold, reduce}
 use Rattle.std.proofs.ByRecursion.{All-drop}
-use Rattle.std.proofs.lemmas.List.{at_drop_more, at_drop_all, drop_all, length-drop}
-use Rattle.std.proofs.lemmas.Bool.{cases_Bool, cond-true, cond-false}
+use Rattle.std.proofs.lemmas.List.{drop_all, length-drop}
+use Rattle.std.proofs.lemmas.Bool.{cases_Bool, cond_both, cond-true, cond-false}
 use Rattle.model.specs.declared.types.Order.{Order}
 use Rattle.model.specs.declared.types.Side.{Side}
 use Rattle.model.specs.Rank.{same_side, before, insert, ranked}
 use Rattle.model.proofs.Commuting.{kept_ranked}
 use Rattle.model.proofs.Lists.{Pairwise, cond_pair}
-use Rattle.model.proofs.Ranking.{Distinct, before_asym, ranked_strictly}
+use Rattle.model.proofs.Ranking.{Distinct, before_asym, before_split, before_total, before_trans, ranked_strictly}
 use Rattle.book.specs.Meaning.{first, place}
-use Rattle.book.proofs.Places.{place_some, place_none, past_all}
-use Rattle.rows.specs.Rows.{blank}
-use Rattle.arrival.specs.Scans.{behind, better_of, best_with}
+use Rattle.book.proofs.Places.{place_some, place_none}
+use Rattle.arrival.specs.Scans.{behind}
+
+-- the first in rank of two orders, of which the second may be missing
+abbrev better_of : Side → Option Order → Order → Option Order
+better_of s None o = Some o
+better_of s (Some x) o = cond (before s o x) (Some o) (Some x)
 
 -- the first of some ranked orders and one more
 first_insert : (s : Side) (o : Order) (xs : List Order) → first (insert s o xs) ≡ better_of s (first xs) o
 first_insert s o [] = refl
 first_insert s o (x ∷ xs) = cond_pair (before s o x) _ _ _ _ (λ l m. first l ≡ m) (λ _. refl) (λ _. refl)
 
--- the first in rank of the orders behind another one
+-- an order is of the side and behind another one
+abbrev pub counts : Side → Option Order → Order → Bool
+counts s from o = same_side s o.side && behind s from o
+
+-- the first in rank of these
 abbrev pub best_of : Side → Option Order → List Order → Option Order
 best_of s from os = first (ranked s (filter (behind s from) os))
 
 -- the same with one more order in front
-best_step : (s : Side) (from : Option Order) (o : Order) (os : List Order) → best_of s from (o ∷ os) ≡ best_with s from (best_of s from os) o
+best_step : (s : Side) (from : Option Order) (o : Order) (os : List Order) → best_of s from (o ∷ os) ≡ cond (counts s from o) (better_of s (best_of s from os) o) (best_of s from os)
 best_step s from o os =
     let ks : List Order = filter (behind s from) os in
-    cond_pair (behind s from o) (o ∷ ks) ks _ _ (λ l m. first (ranked s l) ≡ m)
-    (λ _. cond_pair (same_side s o.side) _ _ _ _ (λ l m. first l ≡ m) (λ _. first_insert s o (ranked s ks)) (λ _. refl))
-    (λ _. refl)
+    let rest : List Order = ranked s ks in
+    elim (behind s from o) as (λ b. first (ranked s (cond b (o ∷ ks) ks)) ≡ cond (same_side s o.side && b) (better_of s (first rest) o) (first rest)) [
+      | true ↦ elim (same_side s o.side) as (λ b. first (cond b (insert s o rest) rest) ≡ cond (b && true) (better_of s (first rest) o) (first rest)) [ true ↦ first_insert s o rest | false ↦ refl ]
+      | false ↦ elim (same_side s o.side) as (λ b. first rest ≡ cond (b && false) (better_of s (first rest) o) (first rest)) [ true ↦ refl | false ↦ refl ]
+    ]
 
--- a scan from the last order to the first begins with none
-pub scan_none : (s : Side) (from : Option Order) (os : List Order) → None ≡ best_of s from (drop (length os) os)
-scan_none s from os = sym (at_drop_all (best_of s from) os (length os) (omega arith))
+-- the first in rank of two orders
+abbrev pub earlier : Side → Order → Order → Order
+earlier s best o = cond (before s o best) o best
 
--- and goes on by one order
-pub scan_more : (s : Side) (from best r : Option Order) (os : List Order) (i : ℕ) → 0 < i → i ≤ length os
-    → best ≡ best_of s from (drop i os) → r ≡ best_with s from best (get_or os (i - 1) blank) → r ≡ best_of s from (drop (i - 1) os)
-scan_more s from best r os i l h inv e =
-    let o : Order = get_or os (i - 1) blank in
-    let up : i ≡ i - 1 + 1 = omega arith in
-    e ∙ ap (λ b. best_with s from b o) (inv ∙ ap (λ k. best_of s from (drop k os)) up) ∙ sym (best_step s from o (drop (i - 1 + 1) os)) ∙ sym (at_drop_more (best_of s from) os (i - 1) blank (omega arith))
+-- two orders may be compared first with each other, or one after the other with a third
+swapped : (s : Side) (b : Option Order) (a o : Order) → (a.number ≡ o.number → ⊥) → better_of s b (earlier s a o) ≡ better_of s (better_of s b o) a
+swapped s None a o d =
+    ⊎_elim
+    (λ e. ap Some (cond-true (before s o a) o a e) ∙ sym (cond-false (before s a o) (Some a) (Some o) (before_asym s o a e)))
+    (λ e. ap Some (cond-false (before s o a) o a e) ∙ sym (cond-true (before s a o) (Some a) (Some o) (before_total s o a (λ x. d (sym x)) e)))
+    (cases_Bool (before s o a))
+swapped s (Some l) a o d =
+    ⊎_elim
+    (λ e.
+    let after = before_asym s o a e in
+    ap (better_of s (Some l)) (cond-true (before s o a) o a e)
+    ∙ cond_both (before s o l) (Some o) (Some l) (λ z. z ≡ better_of s z a)
+    (λ f. sym (cond-false (before s a o) (Some a) (Some o) after))
+    (λ f. sym (cond-false (before s a l) (Some a) (Some l) (before_trans s l o a f after))))
+    (λ e.
+    ap (better_of s (Some l)) (cond-false (before s o a) o a e)
+    ∙ cond_both (before s o l) (Some o) (Some l) (λ z. better_of s (Some l) a ≡ better_of s z a)
+    (λ f. cond-true (before s a l) (Some a) (Some l) (before_split s o a l f e) ∙ sym (cond-true (before s a o) (Some a) (Some o) (before_total s o a (λ x. d (sym x)) e)))
+    (λ f. refl))
+    (cases_Bool (before s o a))
+
+-- a scan that begins with an order
+fold_best : (s : Side) (from : Option Order) (a : Order) (os : List Order) → Distinct (a ∷ os) → Some (fold (earlier s) a (filter (counts s from) os)) ≡ better_of s (best_of s from os) a
+fold_best s from a [] h = refl
+fold_best s from a (o ∷ os) h =
+    let best : Option Order = best_of s from os in
+    cond_pair (counts s from o) _ _ (better_of s best o) best (λ l b. Some (fold (earlier s) a l) ≡ better_of s b a)
+    (λ _. fold_best s from (earlier s a o) os (cond_both (before s o a) o a (λ y. Distinct (y ∷ os)) (λ _. h.1) (λ _. (h.0.1, h.1.1))) ∙ swapped s best a o h.0.0)
+    (λ _. fold_best s from a os (h.0.1, h.1.1))
+    ∙ sym (ap (λ b. better_of s b a) (best_step s from o os))
+
+-- so a scan finds the first in rank
+pub scan_best : (s : Side) (from : Option Order) (os : List Order) → Distinct os → reduce (earlier s) (filter (counts s from) os) ≡ best_of s from os
+scan_best s from [] h = refl
+scan_best s from (o ∷ os) h =
+    let best : Option Order = best_of s from os in
+    cond_pair (counts s from o) _ _ (better_of s best o) best (λ l b. reduce (earlier s) l ≡ b) (λ _. fold_best s from o os h) (λ _. scan_best s from os h.1)
+    ∙ sym (best_step s from o os)
 
 -- a filter that every order passes
 kept_all : (p : Order → Bool) (xs : List Order) → AllByRecursion (λ x. p x ≡ true) xs → filter p xs ≡ xs
@@ -68,29 +110,17 @@ behind_none : (s : Side) (os : List Order) → filter (behind s None) os ≡ os
 behind_none s [] = refl
 behind_none s (o ∷ os) = ap (λ l. o ∷ l) (behind_none s os)
 
--- with no order before it, the next is the first
-pub next_first : (s : Side) (os : List Order) → best_of s None os ≡ place 1 (ranked s os)
-next_first s os = ap (λ l. first (ranked s l)) (behind_none s os)
-
--- the order after the k-th is the first behind that
-pub next_some : (s : Side) (os : List Order) (k : ℕ) (x : Order) → Distinct os → Some x ≡ place k (ranked s os) → best_of s (Some x) os ≡ place (k + 1) (ranked s os)
-next_some s os zero x d e = let z : ◌≡◌ {A = ℕ} 0 1 = cc in absurd (omega arith)
-next_some s os (suc i) x d e =
+-- the order after the k-th is the first behind that, and the first of all where there is none yet
+pub next_place : (s : Side) (os : List Order) (k : ℕ) (at : Option Order) → Distinct os → at ≡ place k (ranked s os) → (at ≡ None → k ≡ 0) → best_of s at os ≡ place (k + 1) (ranked s os)
+next_place s os k None d e b = ap (λ l. first (ranked s l)) (behind_none s os) ∙ ap (λ n. place (n + 1) (ranked s os)) (sym (b refl))
+next_place s os zero (Some x) d e b = let z : ◌≡◌ {A = ℕ} 0 1 = cc in absurd (omega arith)
+next_place s os (suc i) (Some x) d e b =
     let xs : List Order = ranked s os in
     let at : drop i xs ≡ x ∷ drop (i + 1) xs = (place_some xs i x (rw add-one e)).1 in
     let after : filter (before s x) xs ≡ drop (suc i) xs = behind_after s x xs i (ranked_strictly s os d) (rw add-one at at) in
     ap first (sym (kept_ranked (before s x) s os) ∙ after) ∙ ap (λ n. place n xs) (sym (add-one (suc i)))
 
--- where there is no k-th order, there is none after it
-pub next_none : (s : Side) (os : List Order) (k : ℕ) → 0 < k → None ≡ place k (ranked s os) → None ≡ place (k + 1) (ranked s os)
-next_none s os zero l e = absurd (omega arith)
-next_none s os (suc i) l e =
-    let xs : List Order = ranked s os in
-    let end : drop i xs ≡ [] = place_none xs i (rw add-one e) in
-    let gone : drop (suc i) xs ≡ [] = drop_all (suc i) xs (omega (arith, ap length end, length-drop i xs)) in
-    sym (ap (λ n. place n xs) (add-one (suc i)) ∙ ap first gone)
-
--- no order has a place past their count
-pub place_past : (s : Side) (os : List Order) (n : ℕ) → length os < n → None ≡ place n (ranked s os)
-place_past s os zero h = absurd (omega arith)
-place_past s os (suc n) h = sym (ap first (past_all s os n (omega arith)))
+-- where there is no order after the k-th, there is none in a later place
+pub place_past : (xs : List Order) (k n : ℕ) → None ≡ place (k + 1) xs → k < n → None ≡ place n xs
+place_past xs k zero e l = absurd (omega arith)
+place_past xs k (suc n) e l = sym (ap first (drop_all n xs (omega (arith, ap length (place_none xs k e), length-drop k xs))))

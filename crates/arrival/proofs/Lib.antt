@@ -1,4 +1,4 @@
-mod InRank
-mod Scanning
 mod Changing
 mod Keeping
+mod Scanning
+mod InRank

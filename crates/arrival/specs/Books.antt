@@ -22,7 +22,7 @@ held_in b = ∥∥₁_elim b.held (held_prop (standing_in b)) (λ h. h)
 
 -- no more orders stand than may
 fitting_in : (b : ArrivalBook) → length (standing_in b) ≤ capacity_of b
-fitting_in b = omega (arith, length-take b.front.count b.front.rows.now, b.fits)
+fitting_in b = omega (arith, length-take b.front.count b.front.rows.now, b.front.fits)
 
 -- and no more may than in any book
 limited_in : (b : ArrivalBook) → capacity_of b ≤ max_capacity

@@ -3,11 +3,6 @@
 
 mod arrival;
 mod front;
-mod fronts;
-mod operations;
-mod questions;
 mod ranks;
-mod scans;
-mod sought;
 
 pub use arrival::ArrivalBook;

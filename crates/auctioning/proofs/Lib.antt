@@ -1,3 +1,1 @@
-pub mod Tapes
 pub mod Found
-pub mod Outcomes

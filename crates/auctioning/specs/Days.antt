@@ -1,5 +1,5 @@
 -- A day after a call for a price or a strike.
-use Rattle.std.specs.Prelude.{ℕ, ◌+◌}
+use Rattle.std.specs.Prelude.{ℕ}
 use Rattle.model.specs.declared.types.Point.{Point}
 use Rattle.model.specs.declared.types.Phase.TheVariants.{Called, Trading}
 use Rattle.model.specs.declared.types.DayState.{DayState}
@@ -9,6 +9,6 @@ use Rattle.model.specs.Curve.{traded}
 abbrev pub with_called : DayState → Point → DayState
 with_called d x = record { phase = Called x.price (traded x); reference = d.reference; last = d.last; used = d.used }
 
--- trading begins about a reference price, after n more records
-abbrev pub with_trading : DayState → ℕ → ℕ → DayState
-with_trading d reference n = record { phase = Trading; reference = reference; last = d.last; used = d.used + n }
+-- trading begins about a reference price, with so many places of the tape used
+abbrev pub trading_from : DayState → ℕ → ℕ → DayState
+trading_from d reference used = record { phase = Trading; reference = reference; last = d.last; used = used }

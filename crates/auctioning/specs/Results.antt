@@ -13,6 +13,11 @@ abbrev pub without_point : Result (Option Point) Refusal → Result ℕ Refusal
 without_point (Ok x) = Ok 0
 without_point (Err e) = Err e
 
+-- the same of a step that answers nothing
+abbrev pub no_answer : Result (Unit {0}) Refusal → Result ℕ Refusal
+no_answer (Ok x) = Ok 0
+no_answer (Err e) = Err e
+
 -- a point at a grid price, at which something trades
 abbrev pub Trades : Settings → Option Point → Type 0
 Trades g None = Unit {0}

@@ -1,19 +1,19 @@
-ghost use Rattle.std.specs.Prelude.{◌≡◌, ◌-◌, min, true, length, IfOk, None, filter, nat_le};
+ghost use Rattle.std.specs.Prelude.{◌≡◌, ◌-◌, min, true, length, None, filter, nat_le};
 ghost use Rattle.model.specs.Numbers.{max_places};
 ghost use Rattle.model.specs.Grid.{Settings as PlainSettings};
 ghost use Rattle.model.specs.State.{is_random};
 ghost use Rattle.model.specs.Calls.{is_market_order, call_result, scratch_after, call as call_outcome};
 ghost use Rattle.model.specs.Views.{view, Came};
 ghost use Rattle.grid.specs.Views.{plain};
-ghost use Rattle.auctioning.specs.Results.{without_point, Priced};
+ghost use Rattle.auctioning.specs.Results.{without_point, no_answer, Priced};
 
 use crate::days::{begin_trading, call_point};
-use crate::places::{free_places, next_place};
 use crate::prices::find_price;
 use book::Book;
 use grid::Settings;
 use model::{DayState, Point, Refusal, TapeRecord};
 use pricing::{MostTraded, PriceRule};
+use tape::Tape;
 use withdrawing::{count_markets, withdraw_markets};
 
 // Calls the price that the rule finds, which then waits for its strike, and answers its point.
@@ -34,7 +34,8 @@ pub fn call<B: Book, R: PriceRule>(
     ensures room { B.capacity book.new ≡ B.capacity book.old }
 {
     let found = find_price(book, rule, settings, scratch)?;
-    conclude(book, day, tape, found)
+    conclude(book, day, tape, found)?;
+    Ok(found)
 }
 
 // Calls the price that was found, or begins trading without one.
@@ -43,15 +44,14 @@ fn conclude<B: Book>(
     day: &mut DayState,
     tape: &mut [TapeRecord],
     found: Option<Point>,
-) -> Result<Option<Point>, Refusal>
-    ensures came { (g : PlainSettings) → Came (call_result (view g day.old (B.orders book.old) (B.capacity book.old)) (length tape.old) found) (without_point result) (view g day.new (B.orders book.new) (B.capacity book.new)) tape.old day.old.used tape.new }
-    ensures same { IfOk result (λ x. x ≡ found) }
+) -> Result<(), Refusal>
+    ensures came { (g : PlainSettings) → Came (call_result (view g day.old (B.orders book.old) (B.capacity book.old)) (length tape.old) found) (no_answer result) (view g day.new (B.orders book.new) (B.capacity book.new)) tape.old day.old.used tape.new }
     ensures room { B.capacity book.new ≡ B.capacity book.old }
 {
     match found {
         Some(point) => {
             call_point(day, point);
-            Ok(found)
+            Ok(())
         }
         None => begin_unpriced(book, day, tape),
     }
@@ -62,23 +62,22 @@ fn begin_unpriced<B: Book>(
     book: &mut B,
     day: &mut DayState,
     tape: &mut [TapeRecord],
-) -> Result<Option<Point>, Refusal>
-    ensures came { (g : PlainSettings) → Came (call_result (view g day.old (B.orders book.old) (B.capacity book.old)) (length tape.old) None) (without_point result) (view g day.new (B.orders book.new) (B.capacity book.new)) tape.old day.old.used tape.new }
-    ensures none { IfOk result (λ x. x ≡ None) }
+) -> Result<(), Refusal>
+    ensures came { (g : PlainSettings) → Came (call_result (view g day.old (B.orders book.old) (B.capacity book.old)) (length tape.old) None) (no_answer result) (view g day.new (B.orders book.new) (B.capacity book.new)) tape.old day.old.used tape.new }
     ensures room { B.capacity book.new ≡ B.capacity book.old }
 {
-    if !markets_fit(book, tape, day.used) {
+    if !markets_fit(book, day, tape.len()) {
         return Err(Refusal::TapeFull);
     }
-    let place = next_place(tape, day.used);
-    let records = withdraw_markets(book, tape, place);
-    begin_trading(day, day.reference, records);
-    Ok(None)
+    let mut out = Tape::new(tape, day.used);
+    withdraw_markets(book, &mut out);
+    begin_trading(day, day.reference, out.next);
+    Ok(())
 }
 
 // Whether the tape has a free place for every market order.
-fn markets_fit<B: Book>(book: &B, tape: &[TapeRecord], used: usize) -> bool
-    ensures { result ≡ nat_le (length (filter is_market_order (B.orders book.now))) (min (length tape.now) max_places - used) }
+fn markets_fit<B: Book>(book: &B, day: &DayState, tape: usize) -> bool
+    ensures { result ≡ nat_le (length (filter is_market_order (B.orders book.now))) (min tape max_places - day.now.used) }
 {
-    count_markets(book) <= free_places(tape, used)
+    count_markets(book) <= day.free_places(tape)
 }

@@ -1,5 +1,5 @@
-ghost use Rattle.std.specs.Prelude.{◌≡◌, ◌+◌, ◌^◌, ◌<◌};
-ghost use Rattle.auctioning.specs.Days.{with_called, with_trading};
+ghost use Rattle.std.specs.Prelude.{◌≡◌};
+ghost use Rattle.auctioning.specs.Days.{with_called, trading_from};
 
 use model::{DayState, Phase, Point};
 
@@ -13,12 +13,11 @@ pub(crate) fn call_point(day: &mut DayState, point: Point)
     };
 }
 
-// Trading begins about a reference price, after so many more records.
-pub(crate) fn begin_trading(day: &mut DayState, reference: u32, records: usize)
-    requires { day.old.used + records < 2 ^ 64 }
-    ensures { day.new ≡ with_trading day.old reference records }
+// Trading begins about a reference price, with so many places of the tape used.
+pub(crate) fn begin_trading(day: &mut DayState, reference: u32, used: usize)
+    ensures { day.new ≡ trading_from day.old reference used }
 {
     day.phase = Phase::Trading;
     day.reference = reference;
-    day.used += records;
+    day.used = used;
 }

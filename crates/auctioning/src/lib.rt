@@ -3,7 +3,6 @@
 
 mod calls;
 mod days;
-mod places;
 mod prices;
 mod strikes;
 

@@ -1,18 +1,17 @@
-ghost use Rattle.std.specs.Prelude.{◌≡◌, ◌+◌, ◌-◌, ◌^◌, ◌<◌, min, true, length, nat_le};
+ghost use Rattle.std.specs.Prelude.{◌≡◌, ◌+◌, ◌-◌, min, true, length, nat_le};
 ghost use Rattle.model.specs.declared.types.Phase.TheVariants.{Called};
 ghost use Rattle.model.specs.Numbers.{max_places};
 ghost use Rattle.model.specs.Grid.{on_grid};
 ghost use Rattle.model.specs.Calls.{strike as strike_outcome};
 ghost use Rattle.model.specs.Views.{view, Came};
 ghost use Rattle.grid.specs.Views.{plain};
-ghost use Rattle.auctioning.specs.Days.{with_trading};
 
 use crate::days::begin_trading;
-use crate::places::{free_places, next_place};
 use book::Book;
 use grid::Settings;
 use model::{DayState, Refusal, TapeRecord};
 use striking::{StrikeSize, strike, strike_size};
+use tape::Tape;
 
 // Strikes the called price: trades the called quantity at it, and begins trading about it. Answers the quantity.
 pub fn strike_called<B: Book>(
@@ -29,28 +28,19 @@ pub fn strike_called<B: Book>(
     ensures room { B.capacity book.new ≡ B.capacity book.old }
 {
     let size = strike_size(book, settings, price, quantity);
-    if !records_fit(size, tape, day.used) {
+    if !records_fit(size, day, tape.len()) {
         return Err(Refusal::TapeFull);
     }
-    let place = next_place(tape, day.used);
-    let records = strike(book, settings, price, quantity, tape, place);
-    Ok(end_strike(day, price, quantity, records))
+    let mut out = Tape::new(tape, day.used);
+    strike(book, settings, price, quantity, &mut out);
+    begin_trading(day, price, out.next);
+    Ok(quantity)
 }
 
 // Whether the tape has a free place for every record of a strike.
-fn records_fit(size: StrikeSize, tape: &[TapeRecord], used: usize) -> bool
-    ensures { result ≡ nat_le (size.trades + size.idle) (min (length tape.now) max_places - used) }
+fn records_fit(size: StrikeSize, day: &DayState, tape: usize) -> bool
+    ensures { result ≡ nat_le (size.trades + size.idle) (min tape max_places - day.now.used) }
 {
-    let free = free_places(tape, used);
+    let free = day.free_places(tape);
     size.trades <= free && size.idle <= free - size.trades
-}
-
-// Trading begins about the price of a strike. Answers what was traded.
-fn end_strike(day: &mut DayState, price: u32, traded: u64, records: usize) -> u64
-    requires { day.old.used + records < 2 ^ 64 }
-    ensures answer { result ≡ traded }
-    ensures day { day.new ≡ with_trading day.old price records }
-{
-    begin_trading(day, price, records);
-    traded
 }

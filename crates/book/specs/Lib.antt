@@ -1,3 +1,4 @@
 pub mod Bounds
 pub mod Plain
+pub mod Making
 pub mod Meaning

@@ -6,5 +6,6 @@ mod meaning;
 mod nearer;
 mod standing;
 
+pub use making::OutOfBounds;
 pub use meaning::Book;
 pub use standing::StandingOrder;

@@ -1,40 +1,78 @@
-ghost use Rattle.std.specs.Prelude.{◌≡◌, if◌then◌else◌, Some, None};
-ghost use Rattle.book.specs.Bounds.{in_bounds};
-ghost use Rattle.book.specs.Plain.{order_of, as_plain};
+ghost use Rattle.std.specs.Prelude.{◌≡◌, Some, codes};
+ghost use Rattle.book.specs.Bounds.{in_bounds, price_in_bounds};
+ghost use Rattle.book.specs.Plain.{plain};
+ghost use Rattle.book.specs.Making.{Admitted};
 
 use crate::standing::StandingOrder;
-use model::{OrderPrice, Side};
+use model::{Order, OrderPrice};
+use std::error::Error;
+use std::fmt;
 
-impl StandingOrder {
-    // A standing order of these contents, or none where one of them is out of bounds.
-    pub fn new(
-        number: u64,
-        member: u32,
-        side: Side,
-        price: OrderPrice,
-        left: u64,
-    ) -> Option<StandingOrder>
-        ensures { as_plain result ≡ (if in_bounds (order_of number member side price left) then Some (order_of number member side price left) else None) }
-    {
-        let priced = match price {
-            OrderPrice::Market => true,
-            OrderPrice::Limit(limit) => 1 <= limit && limit <= 99_999,
-        };
-        if number < 1
-            || number > 999_999_999
-            || member < 1
-            || member > 999
-            || !priced
-            || left > 1_000_000_000
-        {
-            return None;
+// Some content of an order is out of bounds.
+#[derive(Clone, Copy, Debug, PartialEq, Eq)]
+pub struct OutOfBounds;
+
+impl fmt::Display for OutOfBounds {
+    ghost output = { λ _. Some (codes "an order out of bounds") };
+
+    fn fmt<W: fmt::Write>(&self, f: &mut fmt::Formatter<W>) -> fmt::Result {
+        f.write_str("an order out of bounds")
+    }
+}
+
+impl Error for OutOfBounds {}
+
+// A standing order of these contents, where all of them are in bounds.
+impl TryFrom<Order> for StandingOrder {
+    type Error = OutOfBounds;
+
+    ghost try_from_gives = { Admitted };
+
+    fn try_from(order: Order) -> Result<StandingOrder, OutOfBounds> {
+        if !in_bounds(order) {
+            return Err(OutOfBounds);
         }
-        Some(StandingOrder {
-            number,
-            member,
-            side,
-            price,
-            left,
+        Ok(StandingOrder {
+            number: order.number,
+            member: order.member,
+            side: order.side,
+            price: order.price,
+            left: order.left,
         })
+    }
+}
+
+// Whether number, member, price and what is left are within their limits.
+fn in_bounds(order: Order) -> bool
+    ensures { result ≡ in_bounds order }
+{
+    (1..=999_999_999).contains(&order.number)
+        && (1..=999).contains(&order.member)
+        && price_in_bounds(order.price)
+        && order.left <= 1_000_000_000
+}
+
+// A limit price is from 1 to the highest price.
+fn price_in_bounds(price: OrderPrice) -> bool
+    ensures { result ≡ price_in_bounds price }
+{
+    match price {
+        OrderPrice::Market => true,
+        OrderPrice::Limit(limit) => (1..=99_999).contains(&limit),
+    }
+}
+
+// And its contents.
+impl From<StandingOrder> for Order {
+    ghost from_gives = { λ standing order. order ≡ plain standing };
+
+    fn from(standing: StandingOrder) -> Order {
+        Order {
+            number: standing.number,
+            member: standing.member,
+            side: standing.side,
+            price: standing.price,
+            left: standing.left,
+        }
     }
 }

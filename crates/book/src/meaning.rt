@@ -10,6 +10,7 @@ use crate::standing::StandingOrder;
 use model::Side;
 
 // A book is known by what stands in it and by its capacity, which never changes. Refusals and questions leave what stands as it was.
+// That the capacity stays is said of each change: no type can hold a fact of a book before and after.
 pub trait Book {
     // the standing orders, ascending by number
     ghost orders: { Self → List Order };
@@ -65,6 +66,7 @@ pub trait Book {
     {
         let (count, _) = self.count();
         let mut best = None;
+        // a loop, and no chain: nth tells its order without the bounds, so no list of standing orders is known to be what it gives
         for i in 0..count {
             match self.nth(side, i + 1) {
                 Some(o) => best = nearer(number, best, o),

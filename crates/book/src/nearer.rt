@@ -11,12 +11,11 @@ pub(crate) fn lower_numbered(
 ) -> Option<StandingOrder>
     ensures { as_plain result ≡ lower_numbered (as_plain a) (as_plain b) }
 {
-    match a {
-        None => b,
-        Some(x) => match b {
-            None => a,
-            Some(y) => { if y.number < x.number { b } else { a } }
-        },
+    // a match, and no min_by_key over both: it is as short, and shows that of two with one number the first stays
+    match (a, b) {
+        (None, _) => b,
+        (_, None) => a,
+        (Some(x), Some(y)) => { if y.number < x.number { b } else { a } }
     }
 }
 

@@ -1,5 +1,5 @@
 -- A count over the active orders of a side in rank, one order at a time.
-use Rattle.std.proofs.Common.{◌≡◌, ℕ, zero, suc, ◌+◌, ◌-◌, ◌*◌, ◌<◌, ◌≤◌, Bool, true, false, cond, List, [], ◌∷◌, length, drop, Some, None, sym, refl, ap, ◌∙◌, subst, ⊎_elim, arith}
+use Rattle.std.proofs.Common.{◌≡◌, ℕ, zero, suc, ◌+◌, ◌-◌, ◌*◌, ◌<◌, ◌≤◌, true, false, List, [], ◌∷◌, length, drop, sym, refl, ap, ◌∙◌, subst, ⊎_elim, arith}
 use Rattle.std.specs.List.{AllByRecursion}
 use Rattle.std.proofs.ByRecursion.{All-weaker}
 use Rattle.std.proofs.lemmas.Bool.{both_ways, cases_Bool, cond-false, cond-true}
@@ -13,7 +13,7 @@ use Rattle.model.specs.Numbers.{max_quantity}
 use Rattle.model.specs.Grid.{Settings, active}
 use Rattle.model.specs.Curve.{allows}
 use Rattle.model.specs.Rank.{ranked}
-use Rattle.model.proofs.Lists.{Pairwise, pairwise_kept}
+use Rattle.model.proofs.Lists.{Pairwise, pairwise_drop, pairwise_kept}
 use Rattle.model.proofs.Ranking.{Wider, ranked_wider}
 use Rattle.walking.specs.Walks.{actives, Found}
 use Rattle.model.proofs.Lengths.{length_ranked}
@@ -29,11 +29,6 @@ further_allows Sell (Limit l) p q h k = grind (arith, nat_tests)
 none_allows : (s : Side) (p : ℕ) (ys : List Order) → AllByRecursion (λ y. allows s y.price p ≡ false) ys → left_at s p ys ≡ 0
 none_allows s p [] h = refl
 none_allows s p (y ∷ ys) h = omega (arith, cond-false (allows s y.price p) y.left 0 h.0, none_allows s p ys h.1)
-
-pairwise_drop : {X : Type 0} (R : X → X → Type 0) (k : ℕ) (xs : List X) → Pairwise R xs → Pairwise R (drop k xs)
-pairwise_drop R zero xs h = h
-pairwise_drop R (suc k) [] h = h
-pairwise_drop R (suc k) (x ∷ xs) h = pairwise_drop R k xs h.1
 
 module _ (g : Settings) (s : Side) (os : List Order) (from k : ℕ) (o : Order) (f : Found g (ranked s os) from k o) where
   -- an order that allows p is counted at p, and at each price that the limit p allows
@@ -51,14 +46,6 @@ module _ (g : Settings) (s : Side) (os : List Order) (from k : ℕ) (o : Order) 
       let v : Pairwise R (o ∷ ys) = subst (Pairwise R) f.onward w in
       let none : AllByRecursion (λ y. allows s y.price p ≡ false) (o ∷ ys) = (h, All-weaker (R o) (λ y. allows s y.price p ≡ false) (λ y r. ⊎_elim (λ t. absurd (both_ways (allows s o.price p) h (r p t))) (λ t. t) (cases_Bool (allows s y.price p))) ys v.0) in
       ap (left_at s p) (sym f.none_between ∙ f.onward) ∙ none_allows s p (o ∷ ys) none
-
-some_mark : (b : Bool) (x y : Mark) → Some x ≡ cond b (Some y) None → (b ≡ true) × (x ≡ y)
-some_mark true x y e = (refl, cc)
-some_mark false x y e = absurd (let z : ◌≡◌ {A = ℕ} 0 1 = cc in omega arith)
-
-no_mark : (b : Bool) (y : Mark) → None ≡ cond b (Some y) None → b ≡ false
-no_mark true y e = absurd (let z : ◌≡◌ {A = ℕ} 0 1 = cc in omega arith)
-no_mark false y e = refl
 
 -- the mark m on the way from the mark `start` to p: nothing is lost at a price that the limit p allows
 pub record Going (g : Settings) (s : Side) (os : List Order) (p : ℕ) (start m : Mark) : Type 0 where
@@ -86,26 +73,23 @@ module _ (g : Settings) (s : Side) (os : List Order) (p : ℕ) (start : Mark) wh
       pub found_small : (k < length os) × (m.total ≤ max_quantity * k)
       found_small = (omega (arith, f.place, length_ranked s os), omega (arith, f.later, h.counted.small))
 
-      pub going_past : o.left ≤ max_quantity → (r : Mark) → Some r ≡ cond (allows s o.price p) (Some (mark_at (k + 1) (m.total + o.left))) None
-          → Going g s os p start r × (length os - r.place < length os - m.place)
-      going_past few r e =
-          let a = some_mark (allows s o.price p) r (mark_at (k + 1) (m.total + o.left)) e in
-          let small = found_small in
-          subst (λ v. Going g s os p start v × (length os - v.place < length os - m.place)) (sym a.1) (
+      pub going_past : o.left ≤ max_quantity → allows s o.price p ≡ true
+          → Going g s os p start (mark_at (k + 1) (m.total + o.left)) × (length os - (k + 1) < length os - m.place)
+      going_past few a =
+          let small = found_small in (
             record {
               counted = record { small = omega (arith, small.1); place = omega (arith, small.0) };
-              further = λ q l. omega (arith, h.further q l, counts g s os m.place k o f p q a.0 l);
+              further = λ q l. omega (arith, h.further q l, counts g s os m.place k o f p q a l);
             },
             omega (arith, small.0, f.later),
           )
 
-      pub stops_at : None ≡ cond (allows s o.price p) (Some (mark_at (k + 1) (m.total + o.left))) None
-          → Counted os (mark_at k m.total) × Reached g s (ranked s os) p start (mark_at k m.total)
-      stops_at e =
+      pub stops_at : allows s o.price p ≡ false → Counted os (mark_at k m.total) × Reached g s (ranked s os) p start (mark_at k m.total)
+      stops_at a =
           let small = found_small in (
             record { small = omega (arith, small.1); place = omega (arith, small.0) },
             record {
               further = λ q l. ap (λ ys. m.total + left_at s q ys) (sym f.none_between) ∙ h.further q l;
-              none_left = stops g s os m.place k o f p (no_mark (allows s o.price p) _ e);
+              none_left = stops g s os m.place k o f p a;
             },
           )

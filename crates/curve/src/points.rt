@@ -11,12 +11,12 @@ pub(crate) fn with_volume(side: Side, point: Point, price: u32, volume: u64) -> 
         Side::Buy => Point {
             price,
             demand: volume,
-            supply: point.supply,
+            ..point
         },
         Side::Sell => Point {
             price,
-            demand: point.demand,
             supply: volume,
+            ..point
         },
     }
 }

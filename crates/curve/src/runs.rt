@@ -27,6 +27,7 @@ fn write_side<B: Book>(book: &B, settings: &Settings, side: Side, from: u32, poi
 {
     let count = points.len();
     let mut mark = Mark { place: 0, total: 0 };
+    // by index, since the two sides go through the places in opposite order
     for turn in 0..count {
         let i = place_in_turn(side, count, turn);
         let price = price_in_run(settings, from, count, i);

@@ -18,23 +18,11 @@ pub(crate) fn order(
 }
 
 pub(crate) fn buy(member: u32, limit: u32, quantity: u64) -> Call {
-    order(
-        member,
-        Side::Buy,
-        OrderPrice::Limit(limit),
-        quantity,
-        Condition::Plain,
-    )
+    conditional(member, Side::Buy, limit, quantity, Condition::Plain)
 }
 
 pub(crate) fn sell(member: u32, limit: u32, quantity: u64) -> Call {
-    order(
-        member,
-        Side::Sell,
-        OrderPrice::Limit(limit),
-        quantity,
-        Condition::Plain,
-    )
+    conditional(member, Side::Sell, limit, quantity, Condition::Plain)
 }
 
 pub(crate) fn market(member: u32, side: Side, quantity: u64) -> Call {

@@ -1,18 +1,12 @@
-use crate::records::show_records;
-use crate::tables::{NO_POINT, NO_RECORD};
-use crate::words::refusal_words;
+use crate::page::{Page, TERMS};
 use book::Book;
 use desk::{DayEnd, trade_day};
+use grid::Terms;
 use model::{Answer, Call, Point, Refusal, TapeRecord};
 use pricing::PriceRule;
-use std::alloc::Global;
+use std::alloc::{AllocError, Global};
 
-const NO_ANSWER: Answer = Answer {
-    refusal: 0,
-    answer: 0,
-};
-
-// A day that was run as one list: what it came to, its answers and its curve.
+// A day that was run as one list: what it came to, its answers, its tape and its curve.
 #[derive(Drop)]
 pub(crate) struct Listed {
     pub(crate) end: Result<DayEnd, Refusal>,
@@ -21,23 +15,19 @@ pub(crate) struct Listed {
     pub(crate) scratch: Vec<Point>,
 }
 
-// Runs a day as one list, with a tick of 1, an absolute band of 20 and a static band of 10 percent.
+// Runs a day as one list.
 pub(crate) fn run_list<B: Book + Drop, R: PriceRule + Drop>(
     heap: Global,
-    indicative: u32,
+    terms: Terms,
     book: B,
     rule: R,
     calls: &[Call],
-) -> anyhow::Result<Listed> {
-    let mut answers = vec![in heap; NO_ANSWER; calls.len()]?;
-    let mut tape = vec![in heap; NO_RECORD; 64]?;
-    let mut scratch = vec![in heap; NO_POINT; 41]?;
+) -> Result<Listed, AllocError> {
+    let mut answers = vec![in heap; Answer::BLANK; calls.len()]?;
+    let mut tape = vec![in heap; TapeRecord::BLANK; 64]?;
+    let mut scratch = vec![in heap; Point::BLANK; 41]?;
     let end = trade_day(
-        1,
-        indicative,
-        20,
-        10,
-        0,
+        terms,
         book,
         rule,
         calls,
@@ -53,50 +43,30 @@ pub(crate) fn run_list<B: Book + Drop, R: PriceRule + Drop>(
     })
 }
 
-// A refusal in a line.
-pub(crate) fn show_refusal(page: &mut String, refusal: Refusal) -> anyhow::Result<()> {
-    let number = refusal.code();
-    let words = refusal_words(number);
-    writeln!(page, "  refused: {words} ({number})")?;
-    Ok(())
-}
-
-// The day once more as one list: what it came to, and whether its tape shows the same as the day that was told.
+// The day once more as one list: what it came to, and whether its tape is the same as that of the day that was told.
 pub(crate) fn show_list<B: Book + Drop, R: PriceRule + Drop>(
-    heap: Global,
-    page: &mut String,
+    page: &mut Page,
     book: B,
     rule: R,
     calls: &[Call],
     told: &[TapeRecord],
-) -> anyhow::Result<()> {
-    let listed = run_list(heap, 100, book, rule, calls)?;
+) -> Result<(), AllocError> {
+    let listed = run_list(page.heap, TERMS, book, rule, calls)?;
     match listed.end {
-        Ok(end) => show_end(heap, page, end, &listed.tape, told),
-        Err(why) => show_refusal(page, why),
+        Ok(end) => show_end(page, end, listed.tape.as_slice() == told),
+        Err(why) => page.show_refusal(why),
     }
 }
 
-fn show_end(
-    heap: Global,
-    page: &mut String,
-    end: DayEnd,
-    tape: &[TapeRecord],
-    told: &[TapeRecord],
-) -> anyhow::Result<()> {
+fn show_end(page: &mut Page, end: DayEnd, same: bool) -> Result<(), AllocError> {
     let calls = end.calls;
     let used = end.used;
     let standing = end.standing;
     let reference = end.reference;
-    let mut once = String::new(heap);
-    let mut again = String::new(heap);
-    show_records(&mut once, told, 0, told.len())?;
-    show_records(&mut again, tape, 0, tape.len())?;
-    let same = if once == again { "the same" } else { "ANOTHER" };
+    let same = if same { "the same" } else { "ANOTHER" };
     writeln!(
-        page,
+        page.text,
         "As one list: {calls} calls, {used} records, {same} tape, last reference price {reference}, {standing} orders stand."
     )?;
-    writeln!(page)?;
-    Ok(())
+    writeln!(page.text)
 }

@@ -1,47 +1,34 @@
 // Prints a day on both tables and under both rules, and the opening prices of some small books.
 #![tactic(auto)]
 
-mod chart;
 mod days;
 mod entries;
 mod lists;
 mod openings;
-mod records;
+mod page;
 mod story;
-mod tables;
 mod telling;
 mod totals;
 mod words;
 
 use crate::days::show_day;
 use crate::openings::show_openings;
-use crate::tables::Table;
+use crate::page::Page;
+use choices::Table;
 use pricing::{LeastSurplus, Middle, Nearest};
 use std::alloc::Global;
 
 // Everything that is printed, as it comes out on one of the tables.
 fn whole_page(heap: Global, table: Table) -> anyhow::Result<String> {
-    let mut page = String::new(heap);
+    let mut page = Page::new(heap, table);
     let balanced = LeastSurplus { below: Middle };
-    show_openings(heap, &mut page, table)?;
-    show_day(
-        heap,
-        &mut page,
-        table,
-        "nearest to the indicative price",
-        Nearest,
-    )?;
-    show_day(
-        heap,
-        &mut page,
-        table,
-        "least surplus, then the middle",
-        balanced,
-    )?;
-    Ok(page)
+    show_openings(&mut page)?;
+    show_day(&mut page, "nearest to the indicative price", Nearest)?;
+    show_day(&mut page, "least surplus, then the middle", balanced)?;
+    Ok(page.text)
 }
 
-fn print_pages(rt: &HostRuntime) -> anyhow::Result<()> {
+fn main(rt: HostRuntime) -> anyhow::Result<()> {
     let page = whole_page(rt.alloc(), Table::Arrival)?;
     let other = whole_page(rt.alloc(), Table::Ranked)?;
     print!(rt; "{page}")?;
@@ -52,8 +39,4 @@ fn print_pages(rt: &HostRuntime) -> anyhow::Result<()> {
         print!(rt; "{other}")?;
     }
     Ok(())
-}
-
-fn main(rt: HostRuntime) -> anyhow::Result<()> {
-    print_pages(&rt)
 }

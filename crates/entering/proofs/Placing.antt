@@ -1,11 +1,10 @@
 -- What remains of an accepted order stands, and the order comes to what the session says.
-use Rattle.std.proofs.Common.{◌≡◌, ℕ, ◌+◌, ◌<◌, ◌≤◌, true, ◌&&◌, ltb, leb, List, [], ◌∷◌, ◌++◌, map, length, Ok, sym, refl, ap, ◌∙◌, subst, append-nil, arith}
+use Rattle.std.proofs.Common.{◌≡◌, ℕ, ◌+◌, ◌-◌, ◌<◌, ◌≤◌, true, ◌&&◌, ltb, leb, List, [], ◌∷◌, ◌++◌, map, length, Ok, sym, refl, ap, ◌∙◌, subst, append-nil, arith}
 use Rattle.std.specs.List.{AllByRecursion}
 use Rattle.std.proofs.lemmas.List.{length_push, length-map}
-use Rattle.std.proofs.lemmas.Bool.{cond_both, cond-true, ltb-true, ltb-false, and_from, lt-ltb, le-leb}
+use Rattle.std.proofs.lemmas.Bool.{cond_both, cond-true, cond-false, le-ltb, ltb-true, ltb-false, and_from, lt-ltb, le-leb}
 use Rattle.model.specs.declared.types.Order.{Order}
 use Rattle.model.specs.declared.types.Entry.{Entry}
-use Rattle.model.specs.declared.types.Phase.{Phase}
 use Rattle.model.specs.declared.types.TapeRecord.{TapeRecord}
 use Rattle.model.specs.Numbers.{max_member, max_quantity, max_number, in_range}
 use Rattle.model.specs.Orders.{Standing}
@@ -16,31 +15,31 @@ use Rattle.model.specs.Entry.{enter}
 use Rattle.model.specs.Views.{Came}
 use Rattle.model.proofs.Standing.{standing_upto}
 use Rattle.model.proofs.Fills.{fills_standing}
-use Rattle.model.proofs.Tapes.{written_append}
+use Rattle.tape.specs.declared.tapes.Tape.{Tape}
+use Rattle.tape.specs.Tapes.{room, Recorded}
+use Rattle.tape.proofs.Recording.{recorded_none, room_after}
 use Rattle.book.specs.Meaning.{all_below, addable}
 use Rattle.book.specs.Bounds.{price_in_bounds, in_bounds}
 use Rattle.book.specs.Plain.{order_of}
 use Rattle.entering.specs.declared.courses.Fate.{Fate}
 use Rattle.entering.specs.declared.courses.Fate.TheVariants.{Stands, Withdrawn, Traded}
 use Rattle.entering.specs.declared.courses.Course.{Course}
-use Rattle.entering.specs.Questions.{records_of}
 use Rattle.entering.specs.Accepted.{own_order, own_record, some_fills, fills_in, outcome_of, Placeable, Accepted, settled_orders}
-use Rattle.entering.proofs.Asking.{length_records}
 
-length_some : (n : ℕ) (fs : List Fill) → (0 < n → n ≡ length fs) → n ≡ length (some_fills n fs)
-length_some n fs h = cond_both (ltb 0 n) fs [] (λ l. n ≡ length l) (λ e. h (ltb-true 0 n e)) (λ e. omega (arith, ltb-false 0 n e))
+-- the trades of a course that has fills, and of one that has none
+module _ (rec : Fill → TapeRecord) (n : ℕ) (fs : List Fill) (a b : Tape) where
+  pub some_recorded : 0 < n → (t : Tape) → Recorded a t (map rec fs) → b ≡ t → Recorded a b (map rec (some_fills n fs))
+  some_recorded l t w e = subst (λ gs. Recorded a b (map rec gs)) (sym (cond-true (ltb 0 n) fs [] (lt-ltb 0 n l))) (subst (λ x. Recorded a x (map rec fs)) (sym e) w)
 
--- what remains is settled after the fills
-pub settled_behind : (capacity k : ℕ) (os mid end : List Order) (n : ℕ) (e : Entry) (q : ℕ) (f : Fate) → k ≡ capacity → mid ≡ os → end ≡ settled_orders k mid n e q f → end ≡ settled_orders capacity os n e q f
-settled_behind capacity k os mid end n e q f ek em ee = ee ∙ ap (λ j. settled_orders j mid n e q f) ek ∙ ap (λ l. settled_orders capacity l n e q f) em
+  pub none_recorded : n ≤ 0 → b ≡ a → Recorded a b (map rec (some_fills n fs))
+  none_recorded l e = subst (λ gs. Recorded a b (map rec gs)) (sym (cond-false (ltb 0 n) fs [] (le-ltb 0 n l))) (subst (λ x. Recorded a x []) (sym e) (recorded_none a))
 
--- and its record is behind those of the fills
-pub written_behind : (tape t u : List TapeRecord) (used n : ℕ) (fs : List Fill) (rec : Fill → TapeRecord) (own : List TapeRecord) → (0 < n → n ≡ length fs)
-    → t ≡ written tape used (map rec (some_fills n fs)) → u ≡ written t (used + n) own → u ≡ written tape used (map rec (some_fills n fs) ++ own)
-written_behind tape t u used n fs rec own h et eu =
-    let ts : List TapeRecord = map rec (some_fills n fs) in
-    let long : n ≡ length ts = length_some n fs h ∙ sym (length-map (some_fills n fs) rec) in
-    eu ∙ ap (λ l. written l (used + n) own) et ∙ ap (λ k. written (written tape used ts) (used + k) own) long ∙ written_append tape used ts own
+  -- they take as many places as it counts
+  pub room_left : (0 < n → n ≡ length fs) → Recorded a b (map rec (some_fills n fs)) → room b ≡ room a - n
+  room_left h w = omega (arith, room_after a b (map rec (some_fills n fs)) w, length-map (some_fills n fs) rec, length_some)
+    where
+      length_some : length (some_fills n fs) ≡ n
+      length_some = cond_both (ltb 0 n) fs [] (λ l. length l ≡ n) (λ e. sym (h (ltb-true 0 n e))) (λ e. omega (arith, ltb-false 0 n e))
 
 below : (os : List Order) (n : ℕ) → AllByRecursion (λ o. o.number ≤ n) os → all_below os (n + 1) ≡ true
 below [] n h = refl
@@ -69,31 +68,27 @@ module _ (capacity last : ℕ) (os : List Order) (e : Entry) (q : ℕ) (number :
   placed (Withdrawn r) h k = sym (append-nil os)
   placed Traded h k = sym (append-nil os)
 
+-- the order's end, by what its code leaves
 module _ (s : State) (tape : List TapeRecord) (e : Entry) (c : Course) (a : Accepted s (length tape) e c) (st : Standing 0 s.orders s.last) (reference : 1 ≤ s.reference) where
-  abbrev ending : Phase → ℕ → ℕ → ℕ → List Order → ℕ → State
-  ending ph r n u os k = record { settings = s.settings; phase = ph; reference = r; last = n; used = u; orders = os; capacity = k }
+  abbrev records : List TapeRecord
+  records = map (trade_of e.side (s.last + 1)) (fills_in s e c) ++ own_record (s.last + 1) c.remaining c.fate
 
-  -- the order's end, by what its code leaves
-  pub came_done : (ph : Phase) (r n u : ℕ) (os : List Order) (k : ℕ) (t : List TapeRecord) → ph ≡ c.phase → r ≡ s.reference → n ≡ s.last + 1 → u ≡ s.used + records_of c
-      → os ≡ settled_orders s.capacity (after_fills (fills_in s e c) s.orders) (s.last + 1) e c.remaining c.fate → k ≡ s.capacity
-      → t ≡ written tape s.used (map (trade_of e.side (s.last + 1)) (fills_in s e c) ++ own_record (s.last + 1) c.remaining c.fate)
-      → Came (enter s (length tape) e) (Ok n) (ending ph r n u os k) tape s.used t
-  came_done ph r n u os k t eph er en eu eos ek et =
-      let end = (outcome_of s e c).state.orders in
-      let wrote = s.used + length (outcome_of s e c).records in
+  abbrev ending : ℕ → List Order → ℕ → State
+  ending u os k = record { settings = s.settings; phase = c.phase; reference = s.reference; last = s.last + 1; used = u; orders = os; capacity = k }
+
+  pub came_done : (os : List Order) → os ≡ settled_orders s.capacity (after_fills (fills_in s e c) s.orders) (s.last + 1) e c.remaining c.fate → (k : ℕ) → k ≡ s.capacity
+      → (u : ℕ) → u ≡ s.used + length records → (t : List TapeRecord) → t ≡ written tape s.used records
+      → Came (enter s (length tape) e) (Ok (s.last + 1)) (ending u os k) tape s.used t
+  came_done os eos k ek u eu t et =
+      let used : ℕ = s.used + length records in
+      let end : List Order = (outcome_of s e c).state.orders in
       let books : os ≡ end =
       eos ∙ placed s.capacity s.last (after_fills (fills_in s e c) s.orders) e c.remaining a.number a.member (fills_standing s.last 0 (fills_in s e c) s.orders st) c.fate (a.placeable reference) a.standing
       in
-      let shown : u ≡ wrote = eu ∙ ap (λ i. s.used + i) (sym (length_records s e c a.fills)) in
-      subst (λ o. Came o (Ok n) (ending ph r n u os k) tape s.used t) (sym a.outcome)
+      subst (λ o. Came o (Ok (s.last + 1)) (ending u os k) tape s.used t) (sym a.outcome)
       (record {
         refusal = refl;
-        answer = en;
-        state = ap (λ x. ending x r n u os k) eph
-            ∙ ap (λ x. ending c.phase x n u os k) er
-            ∙ ap (λ x. ending c.phase s.reference x u os k) en
-            ∙ ap (λ x. ending c.phase s.reference (s.last + 1) x os k) shown
-            ∙ ap (λ x. ending c.phase s.reference (s.last + 1) wrote x k) books
-            ∙ ap (ending c.phase s.reference (s.last + 1) wrote end) ek;
+        answer = refl;
+        state = ap (λ n. ending n os k) eu ∙ ap (λ x. ending used x k) books ∙ ap (ending used end) ek;
         tape = et;
       })

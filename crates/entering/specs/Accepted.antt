@@ -6,7 +6,7 @@ use Rattle.model.specs.declared.types.Refusal.{Refusal}
 use Rattle.model.specs.declared.types.TapeRecord.{TapeRecord}
 use Rattle.model.specs.declared.types.TapeRecord.TheVariants.{Withdrawal}
 use Rattle.model.specs.Numbers.{max_member, max_quantity, max_number, code}
-use Rattle.model.specs.State.{State, Outcome, refuse}
+use Rattle.model.specs.State.{State, Outcome, refuse, free}
 use Rattle.model.specs.Trading.{Fill, trade_of, after_fills}
 use Rattle.model.specs.Entry.{numbered, meeting, accepted, enter}
 use Rattle.book.specs.Meaning.{max_capacity, addable}
@@ -15,7 +15,7 @@ use Rattle.book.specs.Plain.{order_of}
 use Rattle.entering.specs.declared.courses.Fate.{Fate}
 use Rattle.entering.specs.declared.courses.Fate.TheVariants.{Stands, Withdrawn, Traded}
 use Rattle.entering.specs.declared.courses.Course.{Course}
-use Rattle.entering.specs.Questions.{free_places, records_of}
+use Rattle.entering.specs.Questions.{records_of}
 
 -- q of the order number n stands by a fate
 abbrev pub own_order : ℕ → Entry → ℕ → Fate → List Order
@@ -62,7 +62,7 @@ pub record Accepted (s : State) (tape : ℕ) (e : Entry) (c : Course) : Type 0 w
   pub outcome : enter s tape e ≡ outcome_of s e c
   pub fills : c.fills ≡ length (fills_in s e c)
   pub number : s.last < max_number
-  pub places : records_of c ≤ free_places tape s.used
+  pub places : records_of c ≤ free s tape
   pub standing : length (outcome_of s e c).state.orders ≤ s.capacity
   pub member : (1 ≤ e.member) × (e.member ≤ max_member)
   pub placeable : 1 ≤ s.reference → Placeable max_quantity c.remaining c.fate

@@ -26,13 +26,17 @@ records_by (Stands p) = 0
 records_by (Withdrawn r) = 1
 records_by Traded = 0
 
--- nothing of the order trades, and it stands as it was entered
-abbrev pub stands_whole : Phase → Entry → Course
-stands_whole ph e = record { fills = 0; removed = 0; remaining = e.quantity; fate = Stands e.price; phase = ph }
+-- nothing of the order trades
+abbrev pub untraded : Entry → Fate → Phase → Course
+untraded e f ph = record { fills = 0; removed = 0; remaining = e.quantity; fate = f; phase = ph }
 
--- nothing of the order trades, and it is withdrawn for its condition
+-- and it stands as it was entered
+abbrev pub stands_whole : Phase → Entry → Course
+stands_whole ph e = untraded e (Stands e.price) ph
+
+-- or is withdrawn for its condition
 abbrev pub goes_whole : Entry → Course
-goes_whole e = record { fills = 0; removed = 0; remaining = e.quantity; fate = Withdrawn ConditionUnmet; phase = Trading }
+goes_whole e = untraded e (Withdrawn ConditionUnmet) Trading
 
 -- what becomes of a market order that is not filled whole: with nothing opposite it is withdrawn, else it stands at its last fill's price, or as market where it has none
 abbrev pub market_fate : Plan → Fate

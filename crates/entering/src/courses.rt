@@ -1,7 +1,7 @@
 use model::{OrderPrice, Phase, Reason};
 
 // What becomes of what remains of an order: it stands at some price, it is withdrawn, or nothing remains.
-#[derive(Clone, Copy)]
+#[derive(Clone, Copy, Debug, PartialEq, Eq)]
 pub(crate) enum Fate {
     Stands(OrderPrice),
     Withdrawn(Reason),
@@ -10,11 +10,34 @@ pub(crate) enum Fate {
 
 // What an order does once it is accepted: how many fills it has, how many standing orders they use up,
 // what remains of it and what becomes of that, and the phase after it.
-#[derive(Clone, Copy)]
+#[derive(Clone, Copy, Debug, PartialEq, Eq)]
 pub(crate) struct Course {
     pub fills: usize,
     pub removed: usize,
     pub remaining: u64,
     pub fate: Fate,
     pub phase: Phase,
+}
+
+impl Course {
+    ghost use Rattle.std.specs.Prelude.{◌≡◌, ◌≤◌};
+    ghost use Rattle.entering.specs.Questions.{standing_after, records_of};
+
+    // How many orders stand after a course, of so many before it.
+    // Its bounds are clauses, and no ghost fields: definitions make courses of any numbers.
+    pub(crate) fn standing_after(self, count: usize) -> usize
+        requires few { count ≤ 4096 }
+        requires fewer { self.removed ≤ count }
+        ensures { result ≡ standing_after count self }
+    {
+        count - self.removed + usize::from(matches!(self.fate, Fate::Stands(_)))
+    }
+
+    // How many records a course writes.
+    pub(crate) fn records(self) -> usize
+        requires few { self.fills ≤ 4096 }
+        ensures { result ≡ records_of self }
+    {
+        self.fills + usize::from(matches!(self.fate, Fate::Withdrawn(_)))
+    }
 }

@@ -6,7 +6,7 @@ ghost use Rattle.entering.specs.Accepted.{Decided};
 
 use crate::courses::Course;
 use crate::planning::course_of;
-use crate::questions::{free_places, own_refusal, room_refusal};
+use crate::questions::ask_itself;
 use book::Book;
 use grid::Settings;
 use model::{DayState, Entry, Refusal};
@@ -22,13 +22,14 @@ pub(crate) fn decide<B: Book>(
     requires { takes_orders day.now.phase ≡ true }
     ensures { Decided (view (plain settings.now) day.now (B.orders book.now) (B.capacity book.now)) tape entry result }
 {
-    if let Some(why) = own_refusal(settings, day, entry) {
-        return Err(why);
-    }
+    ask_itself(settings, day, entry)?;
     let course = course_of(book, settings, day, entry);
     let (count, capacity) = book.count();
-    if let Some(why) = room_refusal(course, count, capacity, free_places(tape, day.used)) {
-        return Err(why);
+    if course.standing_after(count) > capacity {
+        return Err(Refusal::CapacityReached);
+    }
+    if course.records() > day.free_places(tape) {
+        return Err(Refusal::TapeFull);
     }
     Ok(course)
 }

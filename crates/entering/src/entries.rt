@@ -1,32 +1,16 @@
-ghost use Rattle.std.specs.Prelude.{◌≡◌, ◌+◌, ◌<◌, ◌≤◌, true, length, OnErr};
+ghost use Rattle.std.specs.Prelude.{◌≡◌, ◌≤◌, true, length, OnErr};
 ghost use Rattle.model.specs.Orders.{Standing};
 ghost use Rattle.model.specs.State.{takes_orders};
 ghost use Rattle.model.specs.Views.{view, Came};
 ghost use Rattle.model.specs.Entry.{enter as entered};
 ghost use Rattle.grid.specs.Views.{plain};
-ghost use Rattle.entering.specs.Questions.{free_places, records_of};
 
 use crate::carrying::carry;
-use crate::courses::Course;
 use crate::deciding::decide;
-use crate::questions::records_of;
 use book::Book;
 use grid::Settings;
 use model::{DayState, Entry, Refusal, TapeRecord};
-
-// Counts an order that ran its course, and the records that it wrote.
-fn advance(day: &mut DayState, course: Course, tape: usize)
-    requires number { day.old.last < 999999999 }
-    requires places { records_of course ≤ free_places tape day.old.used }
-    ensures phase { day.new.phase ≡ course.phase }
-    ensures reference { day.new.reference ≡ day.old.reference }
-    ensures last { day.new.last ≡ day.old.last + 1 }
-    ensures used { day.new.used ≡ day.old.used + records_of course }
-{
-    day.phase = course.phase;
-    day.last += 1;
-    day.used += records_of(course);
-}
+use tape::Tape;
 
 // Enters an order, and answers its number. It is refused by its first question answered no, and then nothing is altered.
 pub fn enter<B: Book>(
@@ -44,7 +28,10 @@ pub fn enter<B: Book>(
     ensures refused { OnErr result ((B.orders book.new ≡ B.orders book.old) × (day.new ≡ day.old) × (tape.new ≡ tape.old)) }
 {
     let course = decide(book, settings, day, entry, tape.len())?;
-    carry(book, settings, day, entry, course, tape);
-    advance(day, course, tape.len());
+    let mut out = Tape::new(tape, day.used);
+    carry(book, settings, day, entry, course, &mut out);
+    day.phase = course.phase;
+    day.last += 1;
+    day.used = out.next;
     Ok(day.last)
 }

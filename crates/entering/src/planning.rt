@@ -2,11 +2,10 @@ ghost use Rattle.std.specs.Prelude.{◌≡◌};
 ghost use Rattle.model.specs.Entry.{phase_after};
 ghost use Rattle.model.specs.Views.{view};
 ghost use Rattle.grid.specs.Views.{plain};
-ghost use Rattle.entering.specs.Courses.{stands_whole, goes_whole, market_fate, fate_of, filled_by, inactive_course, active_course};
+ghost use Rattle.entering.specs.Courses.{untraded, market_fate, fate_of, filled_by, inactive_course, active_course};
 ghost use Rattle.entering.specs.Accepted.{Runs};
 
 use crate::courses::{Course, Fate};
-use crate::questions::is_trading;
 use book::Book;
 use grid::Settings;
 use meeting::{Plan, plan};
@@ -23,29 +22,16 @@ fn phase_after(interrupted: bool) -> Phase
     }
 }
 
-// The order stands as it was entered.
-fn stands_whole(phase: Phase, entry: Entry) -> Course
-    ensures { result ≡ stands_whole phase entry }
+// Nothing of the order trades.
+fn untraded(entry: Entry, fate: Fate, phase: Phase) -> Course
+    ensures { result ≡ untraded entry fate phase }
 {
     Course {
         fills: 0,
         removed: 0,
         remaining: entry.quantity,
-        fate: Fate::Stands(entry.price),
+        fate,
         phase,
-    }
-}
-
-// The order is withdrawn whole for its condition.
-fn goes_whole(entry: Entry) -> Course
-    ensures { result ≡ goes_whole entry }
-{
-    Course {
-        fills: 0,
-        removed: 0,
-        remaining: entry.quantity,
-        fate: Fate::Withdrawn(Reason::ConditionUnmet),
-        phase: Phase::Trading,
     }
 }
 
@@ -68,13 +54,12 @@ fn fate_of(entry: Entry, plan: Plan) -> Fate
     if plan.remaining == 0 {
         return Fate::Traded;
     }
-    match entry.condition {
-        Condition::Plain => match entry.price {
-            OrderPrice::Market => market_fate(plan),
-            OrderPrice::Limit(_) => Fate::Stands(entry.price),
-        },
-        Condition::FillOrKill => Fate::Withdrawn(Reason::ConditionUnmet),
-        Condition::ImmediateOrCancel => Fate::Withdrawn(Reason::ConditionUnmet),
+    match (entry.condition, entry.price) {
+        (Condition::Plain, OrderPrice::Market) => market_fate(plan),
+        (Condition::Plain, OrderPrice::Limit(_)) => Fate::Stands(entry.price),
+        (Condition::FillOrKill | Condition::ImmediateOrCancel, _) => {
+            Fate::Withdrawn(Reason::ConditionUnmet)
+        }
     }
 }
 
@@ -96,9 +81,12 @@ fn inactive_course(phase: Phase, entry: Entry) -> Course
     ensures { result ≡ inactive_course phase entry entry.condition }
 {
     match entry.condition {
-        Condition::Plain => stands_whole(phase, entry),
-        Condition::FillOrKill => goes_whole(entry),
-        Condition::ImmediateOrCancel => goes_whole(entry),
+        Condition::Plain => untraded(entry, Fate::Stands(entry.price), phase),
+        Condition::FillOrKill | Condition::ImmediateOrCancel => untraded(
+            entry,
+            Fate::Withdrawn(Reason::ConditionUnmet),
+            Phase::Trading,
+        ),
     }
 }
 
@@ -106,16 +94,14 @@ fn inactive_course(phase: Phase, entry: Entry) -> Course
 fn active_course(entry: Entry, plan: Plan) -> Course
     ensures { result ≡ active_course entry entry.condition plan }
 {
-    match entry.condition {
-        Condition::Plain => filled_by(entry, plan),
-        Condition::FillOrKill => {
-            if plan.remaining > 0 {
-                goes_whole(entry)
-            } else {
-                filled_by(entry, plan)
-            }
-        }
-        Condition::ImmediateOrCancel => filled_by(entry, plan),
+    if entry.condition == Condition::FillOrKill && plan.remaining > 0 {
+        untraded(
+            entry,
+            Fate::Withdrawn(Reason::ConditionUnmet),
+            Phase::Trading,
+        )
+    } else {
+        filled_by(entry, plan)
     }
 }
 
@@ -128,19 +114,12 @@ pub(crate) fn course_of<B: Book>(
 ) -> Course
     ensures { Runs (view (plain settings.now) day.now (B.orders book.now) (B.capacity book.now)) entry result }
 {
-    if !is_trading(day.phase) {
-        return stands_whole(day.phase, entry);
+    if day.phase != Phase::Trading {
+        return untraded(entry, Fate::Stands(entry.price), day.phase);
     }
     if !settings.active(entry.price) {
         return inactive_course(day.phase, entry);
     }
-    let plan = plan(
-        book,
-        settings,
-        day.reference,
-        entry.side,
-        entry.price,
-        entry.quantity,
-    );
+    let plan = plan(book, settings, day.reference, entry);
     active_course(entry, plan)
 }

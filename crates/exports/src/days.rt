@@ -1,40 +1,23 @@
-ghost use Rattle.std.specs.Prelude.{◌≡◌, ◌⊎◌, [], length, IfOk, vec_len};
-ghost use Rattle.grid.specs.Views.{given};
+ghost use Rattle.std.specs.Prelude.{◌≡◌, ◌⊎◌, [], length, MatchResult, vec_len};
+ghost use Rattle.model.specs.Numbers.{code, no_refusal};
+ghost use Rattle.grid.specs.Views.{given, offered};
 ghost use Rattle.exports.specs.Refused.{refused};
 
 use crate::memory::Memory;
 use crate::raw::{RawAnswer, RawCall, RawEnd, RawOrder, RawPoint, RawRecord};
-use crate::turning::{raw_end, raw_order};
-use arrival::ArrivalBook;
+use crate::turning::phase_number;
 use book::Book;
-use model::{Order, OrderPrice, Side};
-use pricing::{LeastSurplus, Middle, Nearest, PriceRule};
-use ranked::RankedBook;
+use choices::{Rule, Table};
+use grid::Terms;
+use model::{Order, Refusal};
+use pricing::PriceRule;
 use session::{Session, run};
-use std::alloc::{AllocError, Global};
+use std::alloc::Global;
 
-const NO_ORDER: Order = Order {
-    number: 0,
-    member: 0,
-    side: Side::Buy,
-    price: OrderPrice::Market,
-    left: 0,
-};
-
-// A day that is done, and one for which there is no memory.
+// A day that is done, and one for which there is no memory. Numbers, since they cross to C, as those of tables and rules do.
 const DONE: u64 = 0;
 
 const NO_MEMORY: u64 = 99;
-
-// What a session is made of.
-#[derive(Clone, Copy)]
-struct Making {
-    tick: u32,
-    indicative: u32,
-    absolute: u32,
-    static_band: u32,
-    last: u64,
-}
 
 // Makes a session over a table (0 arrival, else ranked) and a rule (0 nearest, else least surplus over middle), and runs a list on it.
 // Answers 0, or the number of the refusal, or 99 where there is no memory.
@@ -58,142 +41,90 @@ pub extern "C" fn nogdrut_day(
 ) -> u64
     ensures { (result ≡ refused (given tick indicative absolute static_band) last (length calls.now) (length answers.old)) ⊎ (result ≡ 99) }
 {
-    let making = Making {
+    let terms = Terms {
         tick,
         indicative,
         absolute,
         static_band,
-        last,
+        last_number: last,
     };
     let Ok(mut memory) = Memory::new(heap, calls, answers, tape, scratch) else {
         return NO_MEMORY;
     };
-    let Ok(number) = on_table(
-        heap,
-        table,
-        rule,
-        making,
-        capacity,
-        &mut memory,
-        standing,
-        end,
-    ) else {
+    let Ok(mut rows) = Vec::from_elem(heap, Order::BLANK, capacity.min(4096)) else {
         return NO_MEMORY;
     };
+    let book = table_of(table).empty(&mut rows);
+    let outcome = run_day(terms, book, rule_of(rule), &mut memory, standing, end);
     memory.give_back(answers, tape, scratch);
-    number
-}
-
-fn on_table(
-    heap: Global,
-    table: u32,
-    rule: u32,
-    making: Making,
-    capacity: usize,
-    memory: &mut Memory,
-    standing: &mut [RawOrder],
-    end: &mut RawEnd,
-) -> Result<u64, AllocError>
-    ensures { IfOk result (λ n. n ≡ refused (given making.tick making.indicative making.absolute making.static_band) making.last (vec_len memory.old.calls) (vec_len memory.old.answers)) }
-{
-    let mut rows = Vec::from_elem(heap, NO_ORDER, capacity.min(4096))?;
-    if table == 0 {
-        Ok(under_rule(
-            rule,
-            making,
-            ArrivalBook::new(&mut rows),
-            memory,
-            standing,
-            end,
-        ))
-    } else {
-        Ok(under_rule(
-            rule,
-            making,
-            RankedBook::new(&mut rows),
-            memory,
-            standing,
-            end,
-        ))
+    match outcome {
+        Ok(()) => DONE,
+        Err(why) => u64::from(u8::from(why)),
     }
 }
 
-fn under_rule<B: Book + Drop>(
-    rule: u32,
-    making: Making,
-    book: B,
-    memory: &mut Memory,
-    standing: &mut [RawOrder],
-    end: &mut RawEnd,
-) -> u64
-    requires { B.orders book ≡ [] }
-    ensures { result ≡ refused (given making.tick making.indicative making.absolute making.static_band) making.last (vec_len memory.old.calls) (vec_len memory.old.answers) }
-{
-    if rule == 0 {
-        run_day(making, book, Nearest, memory, standing, end)
-    } else {
-        run_day(
-            making,
-            book,
-            LeastSurplus { below: Middle },
-            memory,
-            standing,
-            end,
-        )
+// The table and the rule of a number from C. No `TryFrom`: every number names one.
+fn table_of(number: u32) -> Table {
+    match number {
+        0 => Table::Arrival,
+        _ => Table::Ranked,
+    }
+}
+
+fn rule_of(number: u32) -> Rule {
+    match number {
+        0 => Rule::Nearest,
+        _ => Rule::Middle,
     }
 }
 
 fn run_day<B: Book + Drop, R: PriceRule + Drop>(
-    making: Making,
+    terms: Terms,
     book: B,
     rule: R,
     memory: &mut Memory,
     standing: &mut [RawOrder],
     end: &mut RawEnd,
-) -> u64
+) -> Result<(), Refusal>
     requires { B.orders book ≡ [] }
-    ensures { result ≡ refused (given making.tick making.indicative making.absolute making.static_band) making.last (vec_len memory.old.calls) (vec_len memory.old.answers) }
+    ensures { MatchResult result (λ _. refused (offered terms) terms.last_number (vec_len memory.old.calls) (vec_len memory.old.answers) ≡ no_refusal) (λ e. refused (offered terms) terms.last_number (vec_len memory.old.calls) (vec_len memory.old.answers) ≡ code e) }
 {
-    match Session::new(
-        making.tick,
-        making.indicative,
-        making.absolute,
-        making.static_band,
-        making.last,
-        book,
-        rule,
-    ) {
-        Err(back) => {
-            let (why, _, _) = back;
-            why.code() as u64
-        }
-        Ok(mut session) => {
-            let number = match run(
-                &mut session,
-                &memory.calls,
-                &mut memory.answers,
-                &mut memory.tape,
-                &mut memory.scratch,
-            ) {
-                Ok(_) => DONE,
-                Err(why) => why.code() as u64,
-            };
-            let (count, _) = session.book().count();
-            *end = raw_end(session.day(), count);
-            show_orders(session.book(), standing);
-            number
-        }
+    let mut session = Session::new(terms, book, rule).map_err(|(why, _, _)| why)?;
+    let outcome = run(
+        &mut session,
+        &memory.calls,
+        &mut memory.answers,
+        &mut memory.tape,
+        &mut memory.scratch,
+    );
+    *end = end_of(&session);
+    show_orders(session.book(), standing);
+    outcome?;
+    Ok(())
+}
+
+// The state of a session after its list.
+fn end_of<B: Book, R: PriceRule>(session: &Session<B, R>) -> RawEnd {
+    let day = session.day();
+    let (standing, _) = session.book().count();
+    RawEnd {
+        phase: phase_number(day.phase),
+        reference: u64::from(day.reference),
+        last: day.last,
+        used: day.used as u64,
+        standing: standing as u64,
     }
 }
 
 // The standing orders by number, as many as there are places.
 fn show_orders<B: Book>(book: &B, places: &mut [RawOrder]) {
+    // a loop, and no zip: the check does not cover one of places that are lent with orders that keep their bounds
     let mut last = 0;
     for place in places.iter_mut() {
         let Some(order) = book.after(last) else {
             return;
         };
-        *place = raw_order(order);
+        *place = RawOrder::from(order);
         last = order.number;
     }
 }

@@ -1,7 +1,6 @@
 ghost use Rattle.std.specs.Prelude.{◌≡◌, length, IfOk, vec_len};
 
 use crate::raw::{RawAnswer, RawCall, RawPoint, RawRecord};
-use crate::turning::{answer_of, call_of, point_of, raw_answer, raw_point, raw_record, record_of};
 use model::{Answer, Call, Point, TapeRecord};
 use std::alloc::{AllocError, Global};
 
@@ -25,10 +24,10 @@ impl Memory {
         ensures { IfOk result (λ m. (vec_len m.calls ≡ length calls.now) × (vec_len m.answers ≡ length answers.now)) }
     {
         Ok(Memory {
-            calls: calls_of(heap, calls)?,
-            answers: answers_of(heap, answers)?,
-            tape: tape_of(heap, tape)?,
-            scratch: scratch_of(heap, scratch)?,
+            calls: copied_in(heap, calls)?,
+            answers: copied_in(heap, answers)?,
+            tape: copied_in(heap, tape)?,
+            scratch: copied_in(heap, scratch)?,
         })
     }
 
@@ -39,50 +38,22 @@ impl Memory {
         tape: &mut [RawRecord],
         scratch: &mut [RawPoint],
     ) {
-        for (place, answer) in answers.iter_mut().zip(self.answers.iter()) {
-            *place = raw_answer(*answer);
-        }
-        for (place, record) in tape.iter_mut().zip(self.tape.iter()) {
-            *place = raw_record(*record);
-        }
-        for (place, point) in scratch.iter_mut().zip(self.scratch.iter()) {
-            *place = raw_point(*point);
-        }
+        copy_out(answers, &self.answers);
+        copy_out(tape, &self.tape);
+        copy_out(scratch, &self.scratch);
     }
 }
 
-fn calls_of(heap: Global, raw: &[RawCall]) -> Result<Vec<Call>, AllocError>
+// What a slice of plain numbers holds, in the engine's types.
+fn copied_in<R: Copy, T: From<R> + Drop>(heap: Global, raw: &[R]) -> Result<Vec<T>, AllocError>
     ensures { IfOk result (λ v. vec_len v ≡ length raw.now) }
 {
-    let mut calls = Vec::with_capacity(heap, raw.len())?;
-    for call in raw {
-        calls.push(call_of(*call))?;
-    }
-    Ok(calls)
+    raw.iter().map(|one| T::from(*one)).collect(heap)
 }
 
-fn answers_of(heap: Global, raw: &[RawAnswer]) -> Result<Vec<Answer>, AllocError>
-    ensures { IfOk result (λ v. vec_len v ≡ length raw.now) }
-{
-    let mut answers = Vec::with_capacity(heap, raw.len())?;
-    for answer in raw {
-        answers.push(answer_of(*answer))?;
+// Writes values as plain numbers, each in its place.
+fn copy_out<T: Copy, R: From<T> + Copy>(places: &mut [R], values: &[T]) {
+    for (place, value) in places.iter_mut().zip(values) {
+        *place = R::from(*value);
     }
-    Ok(answers)
-}
-
-fn tape_of(heap: Global, raw: &[RawRecord]) -> Result<Vec<TapeRecord>, AllocError> {
-    let mut tape = Vec::with_capacity(heap, raw.len())?;
-    for record in raw {
-        tape.push(record_of(*record))?;
-    }
-    Ok(tape)
-}
-
-fn scratch_of(heap: Global, raw: &[RawPoint]) -> Result<Vec<Point>, AllocError> {
-    let mut scratch = Vec::with_capacity(heap, raw.len())?;
-    for point in raw {
-        scratch.push(point_of(*point))?;
-    }
-    Ok(scratch)
 }

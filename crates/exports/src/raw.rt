@@ -1,4 +1,4 @@
-// What crosses the boundary: plain numbers in the layout of C.
+// What crosses the boundary: plain numbers in the layout of C, which has no enums with fields.
 
 // A call. Kind: 0 order, 1 withdrawal, 2 random period, 3 auction, else close.
 // Side: 0 buy, else sell. Condition: 0 none, 1 fill-or-kill, else immediate-or-cancel. Market: 0 limit, else market.

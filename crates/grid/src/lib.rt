@@ -5,6 +5,8 @@ mod bands;
 mod making;
 mod prices;
 mod settings;
+mod terms;
 
 pub use bands::within;
 pub use settings::Settings;
+pub use terms::Terms;

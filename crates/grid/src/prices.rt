@@ -26,12 +26,12 @@ impl Settings {
     }
 
     // The least price on the grid.
+    #[tactic(auto, using(crate::proofs::Bounds::divided_up_is))]
     pub fn lowest(&self) -> u32
         ensures value { result ≡ lowest (plain self.now) }
         ensures least { IsLowest (plain self.now) result }
     {
-        let bottom = self.band_bottom();
-        (bottom + (self.tick - 1)) / self.tick * self.tick
+        self.band_bottom().div_ceil(self.tick) * self.tick
     }
 
     // The greatest price on the grid.
@@ -56,11 +56,7 @@ impl Settings {
     pub fn price_at(&self, place: usize) -> Option<u32>
         ensures { result ≡ (if nat_lt place (count (plain self.now)) then Some (lowest (plain self.now) + place * self.now.tick) else None) }
     {
-        if place < self.count() {
-            Some(self.raised(place))
-        } else {
-            None
-        }
+        (place < self.count()).then(|| self.raised(place))
     }
 
     // From the lowest price to the highest, and so how many prices there are.
@@ -88,7 +84,7 @@ impl Settings {
         ensures fits { up self.now.tick result ≤ max_price }
         ensures least { IsLowest (plain self.now) (up self.now.tick result) }
     {
-        (self.indicative * (100 - self.absolute) + 99) / 100
+        (self.indicative * (100 - self.absolute)).div_ceil(100)
     }
 
     // The greatest price within the absolute band, a multiple of the tick or not.

@@ -10,6 +10,7 @@ ghost use Rattle.book.specs.Plain.{as_plain};
 
 use book::{Book, StandingOrder};
 use model::{DayState, Phase, Refusal, TapeRecord};
+use tape::Tape;
 use withdrawing::{withdraw_all, withdraw_one};
 
 // Withdraws all that is left of a member's order, and answers it.
@@ -29,8 +30,9 @@ pub fn withdraw<B: Book>(
     if day.free_places(tape.len()) < 1 {
         return Err(Refusal::TapeFull);
     }
-    let quantity = withdraw_one(book, number, tape, day.used);
-    day.used += 1;
+    let mut out = Tape::new(tape, day.used);
+    let quantity = withdraw_one(book, number, &mut out);
+    day.used = out.next;
     Ok(quantity)
 }
 
@@ -38,10 +40,7 @@ pub fn withdraw<B: Book>(
 fn stands_for(member: u32, order: Option<StandingOrder>) -> bool
     ensures { result ≡ stands_for member (as_plain order) }
 {
-    match order {
-        Some(o) => o.member == member,
-        None => false,
-    }
+    order.is_some_and(|order| order.member == member)
 }
 
 // Withdraws every order that stands, ends the day, and answers how many they were.
@@ -56,8 +55,9 @@ pub fn close<B: Book>(
     if !all_fit(book, day, tape.len()) {
         return Err(Refusal::TapeFull);
     }
-    let withdrawn = withdraw_all(book, tape, day.used);
-    day.used += withdrawn;
+    let mut out = Tape::new(tape, day.used);
+    let withdrawn = withdraw_all(book, &mut out);
+    day.used = out.next;
     day.phase = Phase::Closed;
     Ok(withdrawn as u64)
 }

@@ -1,3 +1,4 @@
+pub mod Done
 pub mod Lowered
 pub mod Onward
 pub mod Filled

@@ -1,14 +1,14 @@
 -- What a lowering leaves of a list of standing orders.
-use Rattle.std.proofs.Common.{◌≡◌, ℕ, suc, ◌+◌, ◌-◌, ◌<◌, cond, eqb, leb, List, [], ◌∷◌, length, sym, refl, ap, ◌∙◌, subst, ⊎_elim, arith}
+use Rattle.std.proofs.Common.{◌≡◌, ℕ, suc, ◌+◌, ◌-◌, ◌<◌, cond, leb, List, [], ◌∷◌, length, refl, subst, ⊎_elim, arith}
 use Rattle.std.specs.List.{ContainsAt as Has, AllByRecursion}
-use Rattle.std.proofs.lemmas.Bool.{cond_both, eq-eqb, ne_eqb, eqb-true}
+use Rattle.std.proofs.lemmas.Bool.{eq-eqb, ne_eqb}
 use Rattle.std.proofs.ByRecursion.{all-has, all_kept_by, all_has_itself}
 use Rattle.model.specs.declared.types.Order.{Order}
 use Rattle.model.specs.declared.types.Side.{Side}
 use Rattle.model.specs.Grid.{Settings, active}
 use Rattle.model.specs.Rank.{ranked}
 use Rattle.model.specs.Orders.{Standing, lower, with_left}
-use Rattle.model.proofs.Lists.{cond_pair, has_here, has_there, has_none, has_cases}
+use Rattle.model.proofs.Lists.{cond_pair, has_none, has_cases}
 use Rattle.model.proofs.Ranking.{Distinct, of_side, all_ranked, distinct_kept, distinct_ranked}
 use Rattle.model.proofs.Standing.{standing_above}
 use Rattle.walking.specs.Walks.{actives}
@@ -20,21 +20,7 @@ actives_has g s os = all_kept_by (λ o. active g o.price) (Has os) (ranked s os)
 pub actives_distinct : (g : Settings) (s : Side) (os : List Order) → Distinct os → Distinct (actives g (ranked s os))
 actives_distinct g s os d = distinct_kept (λ o. active g o.price) (ranked s os) (distinct_ranked s os d)
 
--- a lowering leaves the orders of other numbers
-pub has_lower : (n q : ℕ) (os : List Order) (y : Order) → Has os y → (n ≡ y.number → ⊥) → Has (lower n q os) y
-has_lower n q [] y h d = h
-has_lower n q (o ∷ os) y h d =
-    cond_both (eqb o.number n) _ _ (λ l. Has l y)
-    (λ e. ⊎_elim
-    (λ same. absurd (d (sym (eqb-true o.number n e) ∙ ap (λ v. v.number) same)))
-    (λ k. cond_both (leb o.left q) _ _ (λ l. Has l y) (λ _. k) (λ _. has_there (with_left o (o.left - q)) os y k))
-    (has_cases o os y h))
-    (λ e. ⊎_elim
-    (λ same. subst (λ v. Has (o ∷ lower n q os) v) same (has_here o (lower n q os)))
-    (λ k. has_there o (lower n q os) y (has_lower n q os y k d))
-    (has_cases o os y h))
-
--- and drops its own where it takes all that is left
+-- a lowering drops its order where it takes all that is left
 pub length_lower : (lo hi q : ℕ) (os : List Order) (x : Order) → Standing lo os hi → Has os x → length (lower x.number q os) + cond (leb x.left q) 1 0 ≡ length os
 length_lower lo hi q [] x st h = absurd (has_none x h)
 length_lower lo hi q (o ∷ os) x st h =

@@ -1,5 +1,5 @@
 -- What an order meets, and what its plan says of it.
-use Rattle.std.specs.Prelude.{◌≡◌, ℕ, ◌+◌, ◌-◌, min, true, false, cond, List, length, nat_le}
+use Rattle.std.specs.Prelude.{◌≡◌, ℕ, ◌+◌, ◌-◌, min, false, cond, List, length, nat_le}
 use Rattle.model.specs.declared.types.Side.{Side}
 use Rattle.model.specs.declared.types.OrderPrice.{OrderPrice}
 use Rattle.model.specs.declared.types.OrderPrice.TheVariants.{Limit}
@@ -30,7 +30,3 @@ with_fill t o = record {
   interrupted = false;
   last_price = Limit (limit o.price);
 }
-
--- a plan that stops at an interruption
-abbrev pub with_interruption : Plan → Plan
-with_interruption t = record { fills = t.fills; removed = t.removed; remaining = t.remaining; interrupted = true; last_price = t.last_price }

@@ -3,6 +3,7 @@
 
 mod filling;
 mod limits;
+mod next;
 mod planning;
 mod plans;
 

@@ -1,6 +1,6 @@
 -- A session by what its code holds, and how the code shows an outcome.
 use Rattle.std.specs.Prelude.{◌≡◌, ℕ, List, Ok, Err, Result}
-use Rattle.model.specs.Types.{Order, DayState, Refusal, TapeRecord}
+use Rattle.model.specs.Types.{Order, DayState, Refusal, TapeRecord, Answer}
 use Rattle.model.specs.Numbers.{code, no_refusal}
 use Rattle.model.specs.Grid.{Settings}
 use Rattle.model.specs.Records.{written}
@@ -19,6 +19,10 @@ refusal_of (Err r) = code r
 abbrev pub answer_of : Result ℕ Refusal → ℕ
 answer_of (Ok a) = a
 answer_of (Err r) = 0
+
+-- a result as a refusal's number and an answer
+abbrev pub shown : Result ℕ Refusal → Answer
+shown r = record { refusal = refusal_of r; answer = answer_of r }
 
 -- a call came to the outcome o: its result, the session after it, and the tape before and after it, of which so many places were used
 pub record Came (o : Outcome) (r : Result ℕ Refusal) (s : State) (before : List TapeRecord) (used : ℕ) (after : List TapeRecord) : Type 0 where

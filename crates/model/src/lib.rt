@@ -1,6 +1,8 @@
 // The vocabulary of a session, its definition and its laws.
 #![tactic(auto)]
 
+mod answers;
+mod blanks;
 mod codes;
 mod days;
 mod laws;
@@ -9,7 +11,9 @@ mod outcomes;
 mod points;
 mod sides;
 mod types;
+mod words;
 
+pub use codes::UnknownNumber;
 pub use laws::laws_hold;
 pub use outcomes::known_outcomes_hold;
 pub use types::{

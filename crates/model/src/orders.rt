@@ -9,10 +9,7 @@ impl OrderPrice {
     pub fn is_market(self) -> bool
         ensures { result ≡ is_market self }
     {
-        match self {
-            OrderPrice::Market => true,
-            OrderPrice::Limit(_) => false,
-        }
+        matches!(self, OrderPrice::Market)
     }
 
     // Whether an order of this side at this price may trade at `price`.

@@ -1,19 +1,20 @@
 // The side of the market on which an order stands.
-#[derive(Clone, Copy)]
+#[derive(Clone, Copy, Debug, PartialEq, Eq)]
 pub enum Side {
     Buy,
     Sell,
 }
 
 // A limit price in whole dinars, or the mark market: any price will do.
-#[derive(Clone, Copy)]
+// An enum, and no Option: market is a mark that an order has, and not a price that is missing.
+#[derive(Clone, Copy, Debug, PartialEq, Eq)]
 pub enum OrderPrice {
     Market,
     Limit(u32),
 }
 
 // What a member asks beyond side, price and quantity: all of it now or nothing, or what can trade now.
-#[derive(Clone, Copy)]
+#[derive(Clone, Copy, Debug, PartialEq, Eq)]
 pub enum Condition {
     Plain,
     FillOrKill,
@@ -21,7 +22,7 @@ pub enum Condition {
 }
 
 // An order as its member enters it.
-#[derive(Clone, Copy)]
+#[derive(Clone, Copy, Debug, PartialEq, Eq)]
 pub struct Entry {
     pub member: u32,
     pub side: Side,
@@ -31,7 +32,7 @@ pub struct Entry {
 }
 
 // An order that stands, with what is left of its quantity.
-#[derive(Clone, Copy)]
+#[derive(Clone, Copy, Debug, PartialEq, Eq)]
 pub struct Order {
     pub number: u64,
     pub member: u32,
@@ -41,7 +42,7 @@ pub struct Order {
 }
 
 // A grid price with what is bid and what is offered at it.
-#[derive(Clone, Copy)]
+#[derive(Clone, Copy, Debug, PartialEq, Eq)]
 pub struct Point {
     pub price: u32,
     pub demand: u64,
@@ -49,7 +50,7 @@ pub struct Point {
 }
 
 // Where a session is in its day. A called price waits for its strike or its put-back.
-#[derive(Clone, Copy)]
+#[derive(Clone, Copy, Debug, PartialEq, Eq)]
 pub enum Phase {
     PreOpening,
     Random,
@@ -60,7 +61,7 @@ pub enum Phase {
 
 // How far a session has come in its day: its phase, the price that the static band lies about,
 // the last order number given, and how many places of the tape are used.
-#[derive(Clone, Copy)]
+#[derive(Clone, Copy, Debug, PartialEq, Eq)]
 pub struct DayState {
     pub phase: Phase,
     pub reference: u32,
@@ -68,38 +69,39 @@ pub struct DayState {
     pub used: usize,
 }
 
-// Why a call is refused.
-#[derive(Clone, Copy)]
+// Why a call is refused, each with the number by which answers and reports name it.
+#[derive(Clone, Copy, Debug, PartialEq, Eq)]
 pub enum Refusal {
-    SettingsOutOfRange,
-    IndicativePrice,
-    BookNotEmpty,
-    WrongPhase,
-    UnknownMember,
-    Quantity,
-    Price,
-    ConditionOutsideTrading,
-    NumbersExhausted,
-    CapacityReached,
-    TapeFull,
-    UnknownOrder,
-    ForeignCalledPrice,
-    ScratchTooShort,
-    AnswersTooShort,
+    SettingsOutOfRange = 1,
+    IndicativePrice = 2,
+    BookNotEmpty = 3,
+    WrongPhase = 4,
+    UnknownMember = 5,
+    Quantity = 6,
+    Price = 7,
+    ConditionOutsideTrading = 8,
+    NumbersExhausted = 9,
+    CapacityReached = 10,
+    TapeFull = 11,
+    UnknownOrder = 12,
+    ForeignCalledPrice = 13,
+    ScratchTooShort = 14,
+    AnswersTooShort = 15,
 }
 
-// Why an order, or what is left of it, is withdrawn.
-#[derive(Clone, Copy)]
+// Why an order, or what is left of it, is withdrawn, each with the number by which reports name it.
+#[derive(Clone, Copy, Debug, PartialEq, Eq)]
 pub enum Reason {
-    ByMember,
-    AfterAuction,
-    ConditionUnmet,
-    NothingOpposite,
-    AtClose,
+    ByMember = 1,
+    AfterAuction = 2,
+    ConditionUnmet = 3,
+    NothingOpposite = 4,
+    AtClose = 5,
 }
 
 // What a place of the tape holds.
-#[derive(Clone, Copy)]
+// An enum, and no Result: neither of the two is a failure.
+#[derive(Clone, Copy, Debug, PartialEq, Eq)]
 pub enum TapeRecord {
     Trade {
         buy: u64,
@@ -115,7 +117,7 @@ pub enum TapeRecord {
 }
 
 // One call of a list. An auction is a call for a price and its strike.
-#[derive(Clone, Copy)]
+#[derive(Clone, Copy, Debug, PartialEq, Eq)]
 pub enum Call {
     Enter(Entry),
     Withdraw { member: u32, number: u64 },
@@ -125,7 +127,8 @@ pub enum Call {
 }
 
 // What a call of a list gives: a refusal's number, 0 when done, and its answer, 0 when refused.
-#[derive(Clone, Copy)]
+// Numbers, and no Result: so the market has its answers written; `From` and `TryFrom` turn one into the other.
+#[derive(Clone, Copy, Debug, PartialEq, Eq)]
 pub struct Answer {
     pub refusal: u8,
     pub answer: u64,

@@ -1,4 +1,4 @@
-use crate::curve::show_curve;
+use chart::Chart;
 use grid::Settings;
 use model::{Order, OrderPrice, Point, Refusal, Side};
 use preview::{Fault, opening_price};
@@ -30,12 +30,7 @@ pub(crate) fn show(
     for order in orders {
         show_order(rt, *order)?;
     }
-    let blank = Point {
-        price: 0,
-        demand: 0,
-        supply: 0,
-    };
-    let mut scratch = vec![in rt.alloc(); blank; settings.count()]?;
+    let mut scratch = vec![in rt.alloc(); Point::BLANK; settings.count()]?;
     let nearest = opening_price(
         &MostTraded { below: Nearest },
         settings,
@@ -46,7 +41,13 @@ pub(crate) fn show(
         below: LeastSurplus { below: Middle },
     };
     let balanced = opening_price(&middle, settings, orders, &mut scratch);
-    show_curve(rt, &scratch)?;
+    print!(rt;
+        "{}",
+        Chart {
+            points: &scratch,
+            indent: 2
+        }
+    )?;
     show_price(rt, "nearest to the indicative price", nearest)?;
     show_price(rt, "least surplus, then the middle", balanced)?;
     println!(rt)
@@ -56,12 +57,12 @@ fn show_order(rt: &HostRuntime, order: Order) -> io::Result<()> {
     let number = order.number;
     let left = order.left;
     let side = match order.side {
-        Side::Buy => "buy ",
+        Side::Buy => "buy",
         Side::Sell => "sell",
     };
     match order.price {
-        OrderPrice::Market => println!(rt; "  {number} {side} {left:>4} at market"),
-        OrderPrice::Limit(price) => println!(rt; "  {number} {side} {left:>4} at {price}"),
+        OrderPrice::Market => println!(rt; "  {number} {side:<4} {left:>4} at market"),
+        OrderPrice::Limit(price) => println!(rt; "  {number} {side:<4} {left:>4} at {price}"),
     }
 }
 
@@ -79,6 +80,6 @@ fn show_price(rt: &HostRuntime, rule: &str, price: Result<Option<Point>, Fault>)
 }
 
 pub(crate) fn show_refusal(rt: &HostRuntime, refusal: Refusal) -> io::Result<()> {
-    let number = refusal.code();
+    let number = u8::from(refusal);
     println!(rt; "  refused: {number}")
 }

@@ -1,22 +1,17 @@
 -- A curve that is written place by place.
-use Rattle.std.proofs.Common.{◌≡◌, ℕ, zero, suc, ◌+◌, ◌-◌, ◌*◌, ◌<◌, Bool, true, false, cond, List, [], ◌∷◌, ◌++◌, map, length, take, drop, set, Some, None, sym, refl, ap, ◌∙◌, append_assoc, suc-mul, suc-add, zero-mul, arith}
-use Rattle.std.proofs.lemmas.List.{drop_more, set_at, take_at, length-map, map-append}
+use Rattle.std.proofs.Common.{◌≡◌, ℕ, zero, suc, ◌+◌, ◌*◌, ◌<◌, List, [], ◌∷◌, ◌++◌, map, length, drop, set, sym, ap, ◌∙◌, append_assoc, suc-mul, suc-add, zero-mul, arith}
+use Rattle.std.proofs.lemmas.List.{drop_more, set_at, length-map, map-append}
 use Rattle.model.specs.declared.types.Order.{Order}
 use Rattle.model.specs.declared.types.Point.{Point}
-use Rattle.model.specs.Grid.{Settings, lowest, count, prices_from, grid}
-use Rattle.model.specs.Curve.{point, curve}
-use Rattle.model.proofs.GridEnds.{length_prices, count_is}
+use Rattle.model.specs.Grid.{Settings, lowest, prices_from}
+use Rattle.model.specs.Curve.{point}
+use Rattle.model.proofs.GridEnds.{length_prices}
 
 prices_more : (t p n : ℕ) → prices_from t p (n + 1) ≡ prices_from t p n ++ (p + n * t) ∷ []
 prices_more t p zero = ap (λ x. x ∷ []) (omega (arith, zero-mul t))
 prices_more t p (suc n) =
     ap (prices_from t p) (suc-add n 1)
     ∙ ap (λ ps. p ∷ ps) (prices_more t (p + t) n ∙ ap (λ x. prices_from t (p + t) n ++ x ∷ []) (omega (arith, suc-mul n t)))
-
--- an answer that there is a price
-pub some_price : (b : Bool) (x y : ℕ) → Some x ≡ cond b (Some y) None → (b ≡ true) × (x ≡ y)
-some_price true x y e = (refl, cc)
-some_price false x y e = absurd (let z : ◌≡◌ {A = ℕ} 0 1 = cc in omega arith)
 
 -- the first n points, before what was there
 abbrev pub filled : Settings → List Order → ℕ → List Point → List Point
@@ -32,9 +27,3 @@ filled_more g os n before l =
     ∙ set_at (map (point g os) ps) _ (drop (n + 1) before) x n (length-map ps (point g os) ∙ length_prices t (lowest g) n)
     ∙ sym (append_assoc (map (point g os) ps) (x ∷ []) (drop (n + 1) before))
     ∙ ap (λ ys. ys ++ drop (n + 1) before) (sym (map-append (point g os) ps ((lowest g + n * t) ∷ [])) ∙ ap (map (point g os)) (sym (prices_more t (lowest g) n)))
-
--- the front of what is written is the curve
-pub curve_front : (g : Settings) (os : List Order) (n : ℕ) (before after : List Point) → n ≡ count g → after ≡ curve g os ++ drop (count g) before → take (n - 0) after ≡ curve g os
-curve_front g os n before after e w =
-    let long : length (curve g os) ≡ n - 0 = length-map (grid g) (point g os) ∙ omega (arith, count_is g) in
-    ap (take (n - 0)) w ∙ take_at (curve g os) (drop (count g) before) (n - 0) long

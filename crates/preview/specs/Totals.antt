@@ -1,5 +1,5 @@
 -- When orders have a curve.
-use Rattle.std.specs.Prelude.{ℕ, ◌+◌, ◌^◌, cond, List, [], ◌∷◌, nat_le, nat_lt}
+use Rattle.std.specs.Prelude.{ℕ, ◌^◌, if◌then◌else◌, List, Some, None, Option, sum_by, nat_le, nat_lt}
 use Rattle.model.specs.declared.types.Order.{Order}
 use Rattle.model.specs.Grid.{Settings, count}
 use Rattle.preview.specs.declared.faults.Fault.{Fault}
@@ -7,14 +7,8 @@ use Rattle.preview.specs.declared.faults.Fault.TheVariants.{QuantityTooLarge, Sc
 
 -- what is left of all orders together
 abbrev pub total : List Order → ℕ
-total [] = 0
-total (o ∷ os) = o.left + total os
+total os = sum_by (λ o. o.left) os
 
--- the number of each fault
-abbrev pub fault_code : Fault → ℕ
-fault_code QuantityTooLarge = 1
-fault_code ScratchTooShort = 2
-
--- the fault of some orders under these settings, with a scratch of this length, or 0
-abbrev pub curve_fault : Settings → List Order → ℕ → ℕ
-curve_fault g os scratch = cond (nat_le (2 ^ 64) (total os)) 1 (cond (nat_lt scratch (count g)) 2 0)
+-- the fault of some orders under these settings, with a scratch of this length, or none
+abbrev pub curve_fault : Settings → List Order → ℕ → Option Fault
+curve_fault g os scratch = if nat_le (2 ^ 64) (total os) then Some QuantityTooLarge else (if nat_lt scratch (count g) then Some ScratchTooShort else None)

@@ -1,5 +1,5 @@
 // Why orders have no curve.
-#[derive(Clone, Copy)]
+#[derive(Clone, Copy, Debug, PartialEq, Eq)]
 pub enum Fault {
     // the quantities of all orders add up to more than a 64-bit number
     QuantityTooLarge,

@@ -5,6 +5,7 @@ mod curve;
 mod faults;
 mod opening;
 mod volumes;
+mod words;
 
 pub use curve::write_curve;
 pub use faults::Fault;

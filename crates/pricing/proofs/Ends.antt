@@ -1,7 +1,6 @@
 -- The ends of the best points of a list that comes in two parts.
-use Rattle.std.proofs.Common.{◌≡◌, ℕ, ◌+◌, ◌<◌, ◌≤◌, false, cond, ltb, List, [], ◌∷◌, ◌++◌, length, get_or, drop, Some, Option, sym, refl, ap, ◌∙◌, subst, ⊎_elim, append_assoc, append-nil, arith}
+use Rattle.std.proofs.Common.{◌≡◌, false, cond, ltb, List, [], ◌∷◌, ◌++◌, Some, Option, sym, refl, ap, ◌∙◌, subst, ⊎_elim, append_assoc, append-nil, arith}
 use Rattle.std.specs.List.{ContainsAt as Has}
-use Rattle.std.proofs.lemmas.List.{at_drop_more, at_drop_all}
 use Rattle.std.proofs.lemmas.Bool.{cond_both}
 use Rattle.model.specs.declared.Point.{Point}
 use Rattle.model.specs.Rules.{Rule, best, lowest_of, highest_of}
@@ -55,15 +54,3 @@ module _ (r : Rule) (law : Lawful r) where
   -- going on from the ends of xs gives those of xs and ys
   pub ends_joined : (o earlier : Option BestEnds) (xs ys : List Point) → o ≡ ends_onward r earlier ys → earlier ≡ ends r xs → o ≡ ends r (xs ++ ys)
   ends_joined o earlier xs ys k e = k ∙ ap (λ v. ends_onward r v ys) e ∙ sym (ends_append xs ys)
-
--- what is read past the end of a list
-abbrev pub blank : Point
-blank = record { price = 0; demand = 0; supply = 0 }
-
--- one turn of the first pass
-pub ends_turn : (r : Rule) (found : Option BestEnds) (ps : List Point) (i : ℕ) (d : Point) (e : BestEnds) → i < length ps → e ≡ ends_with r found (get_or ps i d)
-    → ends_onward r (Some e) (drop (i + 1) ps) ≡ ends_onward r found (drop i ps)
-ends_turn r found ps i d e l k = ap (λ v. ends_onward r (Some v) (drop (i + 1) ps)) k ∙ sym (at_drop_more (ends_onward r found) ps i d l)
-
-pub ends_last : (r : Rule) (found : Option BestEnds) (ps : List Point) (i : ℕ) → length ps ≤ i → found ≡ ends_onward r found (drop i ps)
-ends_last r found ps i l = sym (at_drop_all (ends_onward r found) ps i l)

@@ -1,5 +1,5 @@
 -- The lowest and the highest best point, all at once and point by point.
-use Rattle.std.specs.Prelude.{cond, List, [], ◌∷◌, Some, None, Option, nat_lt}
+use Rattle.std.specs.Prelude.{cond, List, [], ◌∷◌, fold, Some, None, Option, nat_lt}
 use Rattle.model.specs.declared.Point.{Point}
 use Rattle.model.specs.Rules.{Rule, best, lowest_of, highest_of}
 use Rattle.pricing.specs.declared.choice.BestEnds.{BestEnds}
@@ -31,5 +31,4 @@ ends_with r (Some e) p = cond (r.ahead p e.highest) (alone p) (cond (r.ahead e.h
 
 -- the ends after some more points
 abbrev pub ends_onward : Rule → Option BestEnds → List Point → Option BestEnds
-ends_onward r e [] = e
-ends_onward r e (p ∷ ps) = ends_onward r (Some (ends_with r e p)) ps
+ends_onward r e ps = fold (λ found p. Some (ends_with r found p)) e ps

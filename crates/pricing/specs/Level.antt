@@ -1,7 +1,7 @@
 -- The points as good as a best one, and the nearest of them to a target.
-use Rattle.std.specs.Prelude.{ℕ, not, List, [], ◌∷◌, Some, None, filter, Option}
+use Rattle.std.specs.Prelude.{ℕ, cond, not, List, [], ◌∷◌, fold, Some, None, filter, Option}
 use Rattle.model.specs.declared.Point.{Point}
-use Rattle.model.specs.Rules.{Rule, pick}
+use Rattle.model.specs.Rules.{Rule, nearer, pick}
 
 -- the points that b does not go ahead of
 abbrev pub level_with : Rule → Point → List Point → List Point
@@ -12,7 +12,11 @@ abbrev pub nearest_among : ℕ → List Point → Option Point
 nearest_among t [] = None
 nearest_among t (p ∷ qs) = Some (pick t p qs)
 
+-- the nearest after one more point
+abbrev pub nearest_with : ℕ → Option Point → Point → Point
+nearest_with t None p = p
+nearest_with t (Some x) p = cond (nearer t p x) p x
+
 -- the nearest of what was found earlier and some more points
 abbrev pub nearest_onward : ℕ → Option Point → List Point → Option Point
-nearest_onward t None ps = nearest_among t ps
-nearest_onward t (Some x) ps = Some (pick t x ps)
+nearest_onward t earlier ps = fold (λ found p. Some (nearest_with t found p)) earlier ps

@@ -1,11 +1,12 @@
 ghost use Rattle.model.specs.Rules.{nearest, middle};
 ghost use Rattle.std.proofs.Common.{rules};
 
+use crate::choice::BestEnds;
 use crate::rule::PriceRule;
 use model::Point;
 
 // No point goes ahead, and the target is the indicative price.
-#[derive(Clone, Copy)]
+#[derive(Clone, Copy, Debug, PartialEq, Eq)]
 pub struct Nearest;
 
 impl PriceRule for Nearest {
@@ -21,13 +22,13 @@ impl PriceRule for Nearest {
         false
     }
 
-    fn target(&self, _lowest: Point, _highest: Point, indicative: u32) -> u64 {
+    fn target(&self, _ends: BestEnds, indicative: u32) -> u64 {
         2 * indicative as u64
     }
 }
 
 // No point goes ahead, and the target is the end towards which both ends press, or else the middle.
-#[derive(Clone, Copy)]
+#[derive(Clone, Copy, Debug, PartialEq, Eq)]
 pub struct Middle;
 
 impl PriceRule for Middle {
@@ -43,7 +44,8 @@ impl PriceRule for Middle {
         false
     }
 
-    fn target(&self, lowest: Point, highest: Point, _indicative: u32) -> u64 {
+    fn target(&self, ends: BestEnds, _indicative: u32) -> u64 {
+        let BestEnds { lowest, highest } = ends;
         if lowest.demand > lowest.supply && highest.demand > highest.supply {
             2 * highest.price as u64
         } else if lowest.demand < lowest.supply && highest.demand < highest.supply {

@@ -2,14 +2,14 @@ ghost use Rattle.std.specs.Prelude.{◌≡◌, List, [], ◌∷◌, ◌++◌, So
 ghost use Rattle.model.specs.declared.Point.{Point};
 ghost use Rattle.model.specs.Rules.{nearer, called};
 ghost use Rattle.pricing.specs.Ends.{alone, widened, ends, ends_with, ends_onward};
-ghost use Rattle.pricing.specs.Level.{level_with, nearest_among, nearest_onward};
+ghost use Rattle.pricing.specs.Level.{level_with, nearest_among, nearest_with, nearest_onward};
 ghost use Rattle.pricing.specs.Called.{IsCalled};
 
 use crate::rule::PriceRule;
 use model::Point;
 
 // The lowest and the highest of the best points.
-#[derive(Clone, Copy)]
+#[derive(Clone, Copy, Debug, PartialEq, Eq)]
 pub struct BestEnds {
     pub lowest: Point,
     pub highest: Point,
@@ -70,11 +70,9 @@ pub fn best_ends<R: PriceRule>(
     ensures value { result ≡ ends_onward (R.rule rule.now) earlier points.now }
     ensures joined { (xs : List Point) → earlier ≡ ends (R.rule rule.now) xs → result ≡ ends (R.rule rule.now) (xs ++ points.now) }
 {
-    let mut found = earlier;
-    for p in points {
-        found = Some(ends_with(rule, found, *p));
-    }
-    found
+    points
+        .iter()
+        .fold(earlier, |found, p| Some(ends_with(rule, found, *p)))
 }
 
 // Whether a's doubled price is nearer the target than b's, or as near and higher.
@@ -83,12 +81,13 @@ fn nearer(a: Point, b: Point, target: u64) -> bool
 {
     let x = (2 * a.price as u64).abs_diff(target);
     let y = (2 * b.price as u64).abs_diff(target);
+    // no order of pairs: the nearer goes first, and then the higher
     x < y || (x == y && a.price > b.price)
 }
 
 // The nearest after one more point.
 fn nearest_with(earlier: Option<Point>, p: Point, target: u64) -> Point
-    ensures { Some result ≡ nearest_onward target earlier (p ∷ []) }
+    ensures { result ≡ nearest_with target earlier p }
 {
     match earlier {
         Some(x) if !nearer(p, x, target) => x,
@@ -107,13 +106,12 @@ pub fn nearest_level<R: PriceRule>(
     ensures value { result ≡ nearest_onward target earlier (level_with (R.rule rule.now) best points.now) }
     ensures joined { (xs : List Point) → earlier ≡ nearest_among target (level_with (R.rule rule.now) best xs) → result ≡ nearest_among target (level_with (R.rule rule.now) best (xs ++ points.now)) }
 {
-    let mut nearest = earlier;
-    for p in points {
-        if !rule.goes_ahead(best, *p) {
-            nearest = Some(nearest_with(nearest, *p, target));
-        }
-    }
-    nearest
+    points
+        .iter()
+        .filter(|p| !rule.goes_ahead(best, **p))
+        .fold(earlier, |nearest, p| {
+            Some(nearest_with(nearest, *p, target))
+        })
 }
 
 // The called price with its point: of the best points, the nearest to the rule's target.
@@ -121,7 +119,7 @@ pub fn called_price<R: PriceRule>(rule: &R, points: &[Point], indicative: u32) -
     ensures value { result ≡ called (R.rule rule.now) indicative points.now }
     ensures meaning { MatchOption result (points.now ≡ []) (IsCalled (R.rule rule.now) indicative points.now) }
 {
-    let BestEnds { lowest, highest } = best_ends(rule, None, points)?;
-    let target = rule.target(lowest, highest, indicative);
-    nearest_level(rule, highest, target, None, points)
+    let ends = best_ends(rule, None, points)?;
+    let target = rule.target(ends, indicative);
+    nearest_level(rule, ends.highest, target, None, points)
 }

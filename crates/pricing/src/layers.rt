@@ -1,11 +1,14 @@
 ghost use Rattle.model.specs.Rules.{most_traded, least_surplus};
 ghost use Rattle.std.proofs.Common.{rules};
 
+use crate::choice::BestEnds;
 use crate::rule::PriceRule;
 use model::Point;
 
+// Two layers, and no generic one over a criterion: its trait would need laws of its own, and each criterion a type.
+
 // The point that trades more goes ahead; points that trade as much go to the rule below.
-#[derive(Clone, Copy)]
+#[derive(Clone, Copy, Debug, PartialEq, Eq)]
 pub struct MostTraded<R> {
     pub below: R,
 }
@@ -24,13 +27,13 @@ impl<R: PriceRule> PriceRule for MostTraded<R> {
         x > y || (x == y && self.below.goes_ahead(a, b))
     }
 
-    fn target(&self, lowest: Point, highest: Point, indicative: u32) -> u64 {
-        self.below.target(lowest, highest, indicative)
+    fn target(&self, ends: BestEnds, indicative: u32) -> u64 {
+        self.below.target(ends, indicative)
     }
 }
 
 // The point with the smaller surplus goes ahead; points with the same surplus go to the rule below.
-#[derive(Clone, Copy)]
+#[derive(Clone, Copy, Debug, PartialEq, Eq)]
 pub struct LeastSurplus<R> {
     pub below: R,
 }
@@ -49,7 +52,7 @@ impl<R: PriceRule> PriceRule for LeastSurplus<R> {
         x < y || (x == y && self.below.goes_ahead(a, b))
     }
 
-    fn target(&self, lowest: Point, highest: Point, indicative: u32) -> u64 {
-        self.below.target(lowest, highest, indicative)
+    fn target(&self, ends: BestEnds, indicative: u32) -> u64 {
+        self.below.target(ends, indicative)
     }
 }

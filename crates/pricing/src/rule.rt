@@ -3,6 +3,7 @@ ghost use Rattle.model.specs.declared.Point.{Point};
 ghost use Rattle.model.specs.Numbers.{max_price};
 ghost use Rattle.model.specs.Rules.{Rule};
 
+use crate::choice::BestEnds;
 use model::Point;
 
 // Which of two points goes ahead, and the target among the best ones.
@@ -14,9 +15,9 @@ pub trait PriceRule {
     fn goes_ahead(&self, a: Point, b: Point) -> bool
         ensures { result ≡ (rule self.now).ahead a b };
 
-    // The doubled price that the called price is to be near, from the lowest and the highest best point.
-    fn target(&self, lowest: Point, highest: Point, indicative: u32) -> u64
-        ensures { result ≡ (rule self.now).target lowest highest indicative };
+    // The doubled price that the called price is to be near, from the ends of the best points.
+    fn target(&self, ends: BestEnds, indicative: u32) -> u64
+        ensures { result ≡ (rule self.now).target ends.lowest ends.highest indicative };
 
     // No two points go ahead of each other.
     ghost asymmetric: { (r : Self) (a b : Point) → (rule r).ahead a b ≡ true → (rule r).ahead b a ≡ false };

@@ -13,11 +13,7 @@ const ROWS: [(u32, u64, u32, u64, u32, u32); 5] = [
 
 // What is bid and offered at each price of the grid from 80 to 120.
 fn points(buy_limit: u32, buy: u64, sell_limit: u32, sell: u64) -> [Point; 41] {
-    let mut points = [Point {
-        price: 0,
-        demand: 0,
-        supply: 0,
-    }; 41];
+    let mut points = [Point::BLANK; 41];
     for price in 80..=120 {
         points[(price - 80) as usize] = Point {
             price,

@@ -2,6 +2,7 @@
 use Rattle.std.proofs.Common.{◌≡◌, ℕ, ◌<◌, cond, eqb, List, [], ◌∷◌, length, get_or, Some, None, sym, refl, ap, ◌∙◌, subst, arith}
 use Rattle.std.specs.List.{ContainsAt as Has, AllByRecursion}
 use Rattle.std.proofs.ByRecursion.{All-get_or, all_kept_by, has_get_or}
+use Rattle.std.proofs.lemmas.Option.{none-some}
 use Rattle.std.proofs.lemmas.Bool.{cond_both, cond-true, cond-false, ne_eqb, eqb-false}
 use Rattle.model.specs.declared.types.Side.{Side}
 use Rattle.model.specs.declared.types.Side.TheVariants.{Buy, Sell}
@@ -17,7 +18,7 @@ use Rattle.model.proofs.Volumes.{find_has}
 use Rattle.book.specs.Bounds.{in_bounds, Bounded}
 use Rattle.rows.specs.Rows.{blank}
 use Rattle.rows.proofs.Checked.{bounded_in}
-use Rattle.ranked.specs.Queues.{queue, Fits}
+use Rattle.ranked.specs.Queues.{queue}
 use Rattle.ranked.specs.Positions.{Located}
 use Rattle.ranked.specs.InRank.{meaning, InRank}
 use Rattle.ranked.specs.declared.position.Position.{Position}
@@ -30,7 +31,7 @@ find_lacks : (n : ℕ) (os : List Order) → find n os ≡ None → Lacks n os
 find_lacks n [] h = tt
 find_lacks n (o ∷ os) h =
     cond_both (eqb o.number n) _ _ (λ r. r ≡ None → Lacks n (o ∷ os))
-    (λ e k. let z : ◌≡◌ {A = ℕ} 0 1 = cc in absurd (omega arith))
+    (λ e k. absurd (none-some o (sym k)))
     (λ e k. ((λ q. eqb-false o.number n e (sym q)), find_lacks n os k))
     h
 
@@ -47,8 +48,8 @@ pub record Stands (h : Sides) (n : ℕ) (p : Position) (x : Order) : Type 0 wher
   pub is : x ≡ get_or (queue p.side h) p.index blank
 
 -- by what a search answered and what was read
-pub stands : (h : Sides) (n : ℕ) (p : Position) (x : Order) → Fits h → InRank h → Located h n (Some p) → x ≡ get_or (queue p.side h) p.index blank → Stands h n p x
-stands h n p x f r a e = record { rank = r; within = omega (arith, a.0, length_queue p.side h f); number = ap (λ o. o.number) e ∙ a.1; is = e }
+pub stands : (h : Sides) (n : ℕ) (p : Position) (x : Order) → InRank h → Located h n (Some p) → x ≡ get_or (queue p.side h) p.index blank → Stands h n p x
+stands h n p x r a e = record { rank = r; within = omega (arith, a.0, length_queue p.side h); number = ap (λ o. o.number) e ∙ a.1; is = e }
 
 -- it is one of its side in rank
 pub among_ranked : (h : Sides) (n : ℕ) (p : Position) (x : Order) → Stands h n p x → Has (ranked p.side (meaning h)) x

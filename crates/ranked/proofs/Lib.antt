@@ -1,4 +1,5 @@
 pub mod Views
+pub mod Taking
 pub mod Changes
 pub mod Scans
 pub mod Filed

@@ -119,7 +119,7 @@ module _ (h : Sides) (n : ℕ) (p : Position) (x : Order) (a : Stands h n p x) w
         (λ t. hold_replace p.side h k split.front split.rest x split.side split.low split.high hold p.index blank a.within here w split.side refl refl (subst (λ o. Changed p.side (set (queue p.side h) p.index o) h k) e c) t ∙ sym (ap (ranked t) after))
 
   -- it is removed, and entered again at a limit price
-  pub turned : (m k : Sides) (price : ℕ) (y : Order) → y ≡ with_price x (Limit price) → in_range 1 max_price price ≡ true → Changed p.side (remove (queue p.side h) p.index) h m → Changed p.side (insert p.side y (queue p.side m)) m k
+  pub turned : (m k : Sides) (price : ℕ) (y : Order) → y ≡ with_price x (Limit price) → in_range 1 max_price price ≡ true → Changed p.side (remove (queue p.side h) p.index) h m → Changed y.side (insert y.side y (queue y.side m)) m k
       → Becomes k (turn n price (meaning h))
   turned m k price y e f c d =
       let w : Order = with_price x (Limit price) in
@@ -129,4 +129,4 @@ module _ (h : Sides) (n : ℕ) (p : Position) (x : Order) (a : Stands h n p x) w
       let in_bounds : Bounded w = record { number_low = b.number_low; number_high = b.number_high; member_low = b.member_low; member_high = b.member_high; price_low = leb-true 1 price r.0; price_high = leb-true price max_price r.1; left_low = b.left_low; left_high = b.left_high } in
       becomes k (turn n price (meaning h))
       (record { standing = turn_standing 0 max_number n price (meaning h) a.rank.held.standing; bounded = subst (AllByRecursion Bounded) (sym after) (All-append Bounded split.front (w ∷ split.rest) parts.0 (in_bounds, parts.2)) })
-      (λ t. hold_enter p.side m k split.front split.rest w split.side split.low (without m c) (subst (λ o. Changed p.side (insert p.side o (queue p.side m)) m k) e d) t ∙ sym (ap (ranked t) after))
+      (λ t. hold_enter p.side m k split.front split.rest w split.side split.low (without m c) (subst (λ s. Changed s (insert s w (queue s m)) m k) split.side (subst (λ o. Changed o.side (insert o.side o (queue o.side m)) m k) e d)) t ∙ sym (ap (ranked t) after))

@@ -1,6 +1,7 @@
 -- What the operations answer, by the queues.
 use Rattle.std.proofs.Common.{◌≡◌, ℕ, zero, suc, ◌+◌, ◌-◌, ◌<◌, ◌≤◌, Bool, true, false, cond, ◌&&◌, ltb, leb, List, length, get_or, drop, Some, None, Option, sym, refl, ap, ◌∙◌, ⊎_elim, arith}
 use Rattle.std.proofs.lemmas.List.{at_drop_more, at_drop_all}
+use Rattle.std.proofs.lemmas.Option.{cond_some, none-some}
 use Rattle.std.proofs.lemmas.Bool.{and_parts, and_cases, and_left, leb-true, leb-false, ltb-true, ltb-false, le-ltb, cond_both, cond-false}
 use Rattle.model.specs.declared.types.Side.{Side}
 use Rattle.model.specs.declared.types.Side.TheVariants.{Buy, Sell}
@@ -9,7 +10,7 @@ use Rattle.model.specs.Rank.{ranked}
 use Rattle.book.specs.Bounds.{in_bounds}
 use Rattle.book.specs.Meaning.{all_below, addable, first, place}
 use Rattle.rows.specs.Rows.{blank}
-use Rattle.ranked.specs.Queues.{count_of, capacity_of, queue, Fits, may_add}
+use Rattle.ranked.specs.Queues.{count_of, queue}
 use Rattle.ranked.specs.Positions.{nth_of}
 use Rattle.ranked.specs.InRank.{meaning, InRank}
 use Rattle.ranked.specs.Keeping.{length_meaning}
@@ -20,36 +21,28 @@ use Rattle.ranked.proofs.Found.{checked}
 
 -- what an answer tells of the test that gave it
 pub some_if : (b : Bool) (x y : Order) → Some x ≡ cond b (Some y) None → (b ≡ true) × (x ≡ y)
-some_if true x y h = (refl, cc)
-some_if false x y h = let z : ◌≡◌ {A = ℕ} 0 1 = cc in absurd (omega arith)
+some_if b x y h = let p = cond_some b y x (sym h) in (p.0, sym p.1)
 
 -- and of one that it left out
 pub none_if : (b : Bool) (y : Order) → None ≡ cond b (Some y) None → b ≡ false
-none_if true y h = let z : ◌≡◌ {A = ℕ} 0 1 = cc in absurd (omega arith)
+none_if true y h = absurd (none-some y h)
 none_if false y h = refl
 
 -- as many orders stand as both sides have
-pub count_meaning : (h : Sides) → Fits h → length (meaning h) ≡ count_of Buy h + count_of Sell h
-count_meaning h f = omega (arith, length_meaning h, length_queue Buy h f, length_queue Sell h f)
+pub count_meaning : (h : Sides) → length (meaning h) ≡ count_of Buy h + count_of Sell h
+count_meaning h = omega (arith, length_meaning h, length_queue Buy h, length_queue Sell h)
 
 -- their numbers are below n where those of both queues are
 pub below_meaning : (h : Sides) (n : ℕ) → all_below (meaning h) n ≡ (all_below (queue Buy h) n && all_below (queue Sell h) n)
 unfolding meaning
 below_meaning h n = below_by_number (queue Buy h) (queue Sell h) n
 
--- an order may be added where the queues say so
-pub asked : (h : Sides) (row o : Order) (r : Bool) → Fits h → row ≡ o → r ≡ may_add h row → r ≡ addable (capacity_of h) (meaning h) o
-asked h row o r f e a =
-    let few = ap (λ n. ltb n (capacity_of h) && (ltb 0 row.left && all_below (meaning h) row.number)) (count_meaning h f) in
-    let below = ap (λ b. ltb (count_of Buy h + count_of Sell h) (capacity_of h) && (ltb 0 row.left && b)) (below_meaning h row.number) in
-    a ∙ sym (few ∙ below) ∙ ap (addable (capacity_of h) (meaning h)) e
-
 -- what is known of an order that may be added
-pub addable_parts : (capacity : ℕ) (os : List Order) (o : Order) → addable capacity os o ≡ true → (1 ≤ o.left) × (all_below os o.number ≡ true)
+pub addable_parts : (capacity : ℕ) (os : List Order) (o : Order) → addable capacity os o ≡ true → (length os < capacity) × (1 ≤ o.left) × (all_below os o.number ≡ true)
 addable_parts capacity os o h =
     let p = and_parts (ltb (length os) capacity) (ltb 0 o.left && all_below os o.number) h in
     let q = and_parts (ltb 0 o.left) (all_below os o.number) p.1 in
-    (ltb-true 0 o.left q.0, q.1)
+    (ltb-true (length os) capacity p.0, ltb-true 0 o.left q.0, q.1)
 
 -- the n-th order by its index
 nth_is : (n : ℕ) (xs : List Order) → nth_of n (length xs) xs ≡ place n xs
@@ -66,10 +59,10 @@ nth_is (suc n) xs =
     (and_cases (ltb 0 (suc n)) (leb (suc n) (length xs)) e))
 
 -- the n-th order of a side of the book
-module _ (h : Sides) (s : Side) (n : ℕ) (rank : InRank h) (fits : Fits h) where
+module _ (h : Sides) (s : Side) (n : ℕ) (rank : InRank h) where
   -- its place in rank
   nth_place : nth_of n (count_of s h) (queue s h) ≡ place n (ranked s (meaning h))
-  nth_place = ap (λ c. nth_of n c (queue s h)) (sym (length_queue s h fits)) ∙ nth_is n (queue s h) ∙ sym (ap (place n) (rank.ranks s))
+  nth_place = ap (λ c. nth_of n c (queue s h)) (sym (length_queue s h)) ∙ nth_is n (queue s h) ∙ sym (ap (place n) (rank.ranks s))
 
   -- there is no n-th order
   pub nth_none : None ≡ nth_of n (count_of s h) (queue s h) → None ≡ place n (ranked s (meaning h))
@@ -80,5 +73,5 @@ module _ (h : Sides) (s : Side) (n : ℕ) (rank : InRank h) (fits : Fits h) wher
   nth_some x r e k =
       let p = some_if (ltb 0 n && leb n (count_of s h)) x (get_or (queue s h) (n - 1) blank) e in
       let q = and_parts (ltb 0 n) (leb n (count_of s h)) p.0 in
-      let within : n - 1 < length (queue s h) = omega (arith, ltb-true 0 n q.0, leb-true n (count_of s h) q.1, length_queue s h fits) in
+      let within : n - 1 < length (queue s h) = omega (arith, ltb-true 0 n q.0, leb-true n (count_of s h) q.1, length_queue s h) in
       k ∙ checked h s (n - 1) x rank within p.1 ∙ e ∙ nth_place

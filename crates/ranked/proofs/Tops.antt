@@ -1,14 +1,9 @@
 -- A number that no standing order is above, as the orders change.
-use Rattle.std.proofs.Common.{◌≡◌, ℕ, ◌+◌, ◌<◌, ◌≤◌, max, true, eqb, ltb, leb, List, [], ◌∷◌, ◌++◌, sym, refl, ◌∙◌, arith}
+use Rattle.std.proofs.Common.{◌≡◌, ℕ, ◌+◌, ◌<◌, ◌≤◌, max, true, eqb, ltb, leb, List, [], ◌∷◌, ◌++◌, refl, arith}
 use Rattle.std.proofs.lemmas.Bool.{and_from, and_parts, cond_both, lt-ltb, ltb-true}
-use Rattle.model.specs.declared.types.Side.TheVariants.{Buy, Sell}
 use Rattle.model.specs.declared.types.Order.{Order}
 use Rattle.model.specs.Orders.{lower, turn}
 use Rattle.book.specs.Meaning.{all_below}
-use Rattle.ranked.specs.Queues.{queue}
-use Rattle.ranked.specs.InRank.{meaning}
-use Rattle.ranked.specs.declared.sides.Sides.{Sides}
-use Rattle.ranked.proofs.Replies.{below_meaning}
 
 -- the first and the rest of orders below n
 parts : (n : ℕ) (o : Order) (os : List Order) → all_below (o ∷ os) n ≡ true → (o.number < n) × (all_below os n ≡ true)
@@ -42,9 +37,9 @@ below_turn n m q (o ∷ os) h =
     let p = parts n o os h in
     cond_both (eqb o.number m) _ _ (λ l. all_below l n ≡ true) (λ _. h) (λ _. together n o (turn m q os) p.0 (below_turn n m q os p.1))
 
--- a number above the top is above all of both queues
-pub above_top : (h : Sides) (top n : ℕ) → all_below (meaning h) (top + 1) ≡ true → top < n → (all_below (queue Buy h) n ≡ true) × (all_below (queue Sell h) n ≡ true)
-above_top h top n b l = and_parts (all_below (queue Buy h) n) (all_below (queue Sell h) n) (sym (below_meaning h n) ∙ below_wider (top + 1) n (meaning h) (omega arith) b)
+-- they are all below a number above the top
+pub above_top : (top n : ℕ) (os : List Order) → all_below os (top + 1) ≡ true → top < n → all_below os n ≡ true
+above_top top n os b l = below_wider (top + 1) n os (omega arith) b
 
 -- the top after an order is added
 pub top_added : (top t : ℕ) (o : Order) (os : List Order) → all_below os (top + 1) ≡ true → t ≡ max top o.number → all_below (os ++ o ∷ []) (t + 1) ≡ true

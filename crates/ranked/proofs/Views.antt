@@ -1,10 +1,10 @@
--- A view read and written at one place, and the copies by which rows move.
-use Rattle.std.proofs.Common.{◌≡◌, ℕ, suc, ◌+◌, ◌-◌, ◌<◌, ◌≤◌, ◌⊎◌, List, ◌∷◌, ◌++◌, reverse, length, get_or, take, drop, set, sym, refl, ap, ◌∙◌, ⊎_elim, arith}
-use lib.Seq.{paste}
-use Rattle.std.specs.List.{insert, remove}
-use Rattle.std.proofs.lemmas.List.Edits.{paste_none, paste_more, take-paste, drop-paste}
-use Rattle.std.proofs.lemmas.List.{length-reverse, length-set, length-drop, get_or-reverse, get_or-drop, get_or-set_same, get_or-set_other, same_lists, reverse-reverse, reverse-append, take-take, drop-take, drop-drop, take-append-drop, take-append-le}
-use Rattle.std.proofs.lemmas.Bool.{cases_eq}
+-- A view read and written at one place, and the rotations by which rows move.
+use Rattle.std.proofs.Common.{◌≡◌, ℕ, suc, ◌+◌, ◌-◌, ◌<◌, ◌≤◌, List, [], ◌∷◌, ◌++◌, reverse, length, get_or, take, drop, set, sym, refl, ap, ◌∙◌, subst, arith, drop-cons}
+use borrow.Rule.Slice.PartMut.{put_mid, mid_of}
+use Rattle.std.specs.List.{insert, remove, between}
+use Rattle.std.proofs.lemmas.List.Edits.{insert-append_left, remove-append_left, insert_end, length-remove}
+use Rattle.std.proofs.lemmas.List.{length-reverse, length-drop, length-take-le, get_or-reverse, get_or-take, set_split, set_at, reverse-reverse, reverse-append, append_assoc, take-take, take_at, drop_at, drop_all, drop-drop, take-append-drop}
+use Rattle.std.proofs.lemmas.Slice.{between_is, between_to_end}
 use Rattle.model.specs.declared.types.Side.{Side}
 use Rattle.model.specs.declared.types.Side.TheVariants.{Buy, Sell}
 use Rattle.model.specs.declared.types.Order.{Order}
@@ -17,21 +17,46 @@ unfolding view
 length_view Buy rows = refl
 length_view Sell rows = length-reverse rows
 
--- an element written from the back
+-- the front and the rest of a list, from its back
+reverse_take : {X : Type 0} (k : ℕ) (l : List X) → reverse (take k l) ≡ drop (length l - k) (reverse l)
+reverse_take k l =
+    let e = ap reverse (sym (take-append-drop k l)) ∙ reverse-append (take k l) (drop k l) in
+    sym (ap (drop (length l - k)) e ∙ drop_at (reverse (drop k l)) (reverse (take k l)) (length l - k) (length-reverse (drop k l) ∙ length-drop k l))
+
+reverse_drop : {X : Type 0} (k : ℕ) (l : List X) → reverse (drop k l) ≡ take (length l - k) (reverse l)
+reverse_drop k l =
+    let e = ap reverse (sym (take-append-drop k l)) ∙ reverse-append (take k l) (drop k l) in
+    sym (ap (take (length l - k)) e ∙ take_at (reverse (drop k l)) (reverse (take k l)) (length l - k) (length-reverse (drop k l) ∙ length-drop k l))
+
+-- a front and a rest, and an element between them
+reverse_cut : {X : Type 0} (k m : ℕ) (l : List X) → reverse (take k l ++ drop m l) ≡ take (length l - m) (reverse l) ++ drop (length l - k) (reverse l)
+reverse_cut k m l = let a = reverse_take k l in let b = reverse_drop m l in reverse-append (take k l) (drop m l) ∙ cc
+
+reverse_put : {X : Type 0} (k m : ℕ) (x : X) (l : List X) → reverse (take k l ++ x ∷ drop m l) ≡ take (length l - m) (reverse l) ++ x ∷ drop (length l - k) (reverse l)
+reverse_put k m x l =
+    let a = reverse_take k l in
+    let b = reverse_drop m l in
+    let c : reverse (x ∷ drop m l) ≡ reverse (drop m l) ++ x ∷ [] = reverse-append (x ∷ []) (drop m l) in
+    reverse-append (take k l) (x ∷ drop m l) ∙ ap (λ t. t ++ reverse (take k l)) c ∙ append_assoc (reverse (drop m l)) (x ∷ []) (reverse (take k l)) ∙ cc
+
+-- an element written, put in, and taken out
 reverse_set : {X : Type 0} (l : List X) (i : ℕ) (a : X) → i < length l → reverse (set l (length l - 1 - i) a) ≡ set (reverse l) i a
-reverse_set {X} l i a h =
+reverse_set l i a h =
     let k = length l - 1 - i in
-    let n = length-set l k a in
-    let m = length-reverse l in
-    same_lists _ _ (length-reverse (set l k a) ∙ n ∙ sym (length-set (reverse l) i a ∙ m)) (λ j d lt.
-    let lj : j < length l = omega (arith, length-reverse (set l k a)) in
-    let left : get_or (reverse (set l k a)) j d ≡ get_or (set l k a) (length l - 1 - j) d = get_or-reverse (set l k a) j d (omega arith) ∙ ap (λ z. get_or (set l k a) (z - 1 - j) d) n in
-    left ∙ at j d lj (get_or-reverse l j d lj) (cases_eq j i))
-  where
-    at : (j : ℕ) (d : X) → j < length l → get_or (reverse l) j d ≡ get_or l (length l - 1 - j) d → (j ≡ i) ⊎ (j ≡ i → ⊥) → get_or (set l (length l - 1 - i) a) (length l - 1 - j) d ≡ get_or (set (reverse l) i a) j d
-    at j d lj right c = ⊎_elim
-        (λ e. rw e (get_or-set_same l (length l - 1 - i) a d (omega arith) ∙ sym (get_or-set_same (reverse l) i a d (omega (arith, length-reverse l)))))
-        (λ ne. get_or-set_other l (length l - 1 - i) (length l - 1 - j) a d (λ e. ne (omega arith)) ∙ sym right ∙ sym (get_or-set_other (reverse l) i j a d ne)) c
+    let n : length l - suc k ≡ i = omega arith in
+    let m : length l - k ≡ suc i = omega arith in
+    let e = set_split l k a (omega arith) in
+    let f = set_split (reverse l) i a (omega (arith, length-reverse l)) in
+    ap reverse e ∙ reverse_put k (suc k) a l ∙ cc
+
+reverse_insert : {X : Type 0} (l : List X) (i : ℕ) (x : X) → reverse (insert l i x) ≡ insert (reverse l) (length l - i) x
+reverse_insert l i x = reverse_put i i x l
+
+reverse_remove : {X : Type 0} (l : List X) (i : ℕ) → i < length l → reverse (remove l i) ≡ remove (reverse l) (length l - 1 - i)
+reverse_remove l i h =
+    let n : length l - suc i ≡ length l - 1 - i = omega arith in
+    let m : length l - i ≡ suc (length l - 1 - i) = omega arith in
+    reverse_cut i (suc i) l ∙ cc
 
 -- a row written in a view
 pub view_set : (s : Side) (rows : List Order) (i : ℕ) (o : Order) → i < length rows → view s (set rows (row_index (length rows) s i) o) ≡ set (view s rows) i o
@@ -51,62 +76,100 @@ unfolding view
 other_view Buy rows = refl
 other_view Sell rows = sym (reverse-reverse rows)
 
--- a copy of s to i and on, before its first step
-pub paste_start : {X : Type 0} (xs s : List X) (i : ℕ) → xs ≡ paste xs i s (i - i)
-paste_start xs s i = let z : i - i ≡ 0 = omega arith in paste_none xs i s ∙ sym (ap (paste xs i s) z)
-
--- and one step on
-pub paste_step : {X : Type 0} (xs ys s : List X) (i j : ℕ) (z a : X) → i ≤ j → j < length xs → j - i < length s → a ≡ get_or s (j - i) z → ys ≡ paste xs i s (j - i)
-    → set ys j a ≡ paste xs i s ((j + 1) - i)
-paste_step xs ys s i j z a l h n q e =
-    let to : i + (j - i) ≡ j = omega arith in
-    let up : (j - i) + 1 ≡ (j + 1) - i = omega arith in
-    ap (λ t. set ys j t) q ∙ ap (λ t. set t j (get_or s (j - i) z)) e ∙ ap (λ t. set (paste xs i s (j - i)) t (get_or s (j - i) z)) (sym to) ∙ paste_more xs i s (j - i) z (omega arith) n ∙ ap (paste xs i s) up
-
--- a copy of n elements leaves what lies behind them
-pub pasted_rest : {X : Type 0} (v w s : List X) (i n m : ℕ) → i + n ≤ m → i ≤ length v → n ≤ length s → w ≡ paste v i s n → drop m w ≡ drop m v
-pasted_rest v w s i n m l h k e =
-    let to : (i + n) + (m - (i + n)) ≡ m = omega arith in
-    let rest : drop (i + n) w ≡ drop (i + n) v = ap (drop (i + n)) e ∙ drop-paste v i s n h k in
-    ap (λ z. drop z w) (sym to) ∙ sym (drop-drop (m - (i + n)) (i + n) w) ∙ ap (drop (m - (i + n))) rest ∙ drop-drop (m - (i + n)) (i + n) v ∙ ap (λ z. drop z v) to
-
--- at each place
-pub paste_rest : {X : Type 0} (xs ys s : List X) (i j k : ℕ) (z : X) → i ≤ j → j ≤ k → j ≤ length xs → j - i ≤ length s → ys ≡ paste xs i s (j - i) → get_or ys k z ≡ get_or xs k z
-paste_rest xs ys s i j k z l m h n e =
-    let rest : drop j ys ≡ drop j xs = pasted_rest xs ys s i (j - i) j (omega arith) (omega arith) n e in
-    let at : j + (k - j) ≡ k = omega arith in
-    ap (λ t. get_or ys t z) (sym at) ∙ sym (get_or-drop j ys (k - j) z) ∙ ap (λ t. get_or t (k - j) z) rest ∙ get_or-drop j xs (k - j) z ∙ ap (λ t. get_or xs t z) at
-
--- the first rows after one is put in
-pub opened : {X : Type 0} (v w : List X) (i n : ℕ) (o : X) → i ≤ n → n < length v → w ≡ paste v i (o ∷ drop i v) (suc n - i) → take (n + 1) w ≡ insert (take n v) i o
-opened v w i n o l h e =
-    let s = o ∷ drop i v in
-    let m = length-drop i v in
-    let to : i + (suc n - i) ≡ n + 1 = omega arith in
-    let up : suc n - i ≡ suc (n - i) = omega arith in
-    let back : i + (n - i) ≡ n = omega arith in
-    let front : take (n + 1) w ≡ take i v ++ take (suc n - i) s = ap (take (n + 1)) e ∙ ap (λ k. take k (paste v i s (suc n - i))) (sym to) ∙ take-paste v i s (suc n - i) (omega arith) (omega arith) in
-    let low : take i (take n v) ≡ take i v = take-take i n v l in
-    let high : drop i (take n v) ≡ take (n - i) (drop i v) = ap (λ k. drop i (take k v)) (sym back) ∙ drop-take i (n - i) v in
-    let mid : take (suc n - i) s ≡ o ∷ take (n - i) (drop i v) = ap (λ k. take k s) up in
-    front ∙ cc (low, high, mid)
-
--- and after one is taken out
-pub closed : {X : Type 0} (v w : List X) (i n : ℕ) → i ≤ n → n < length v → w ≡ paste v i (drop (suc i) v) (n - i) → take n w ≡ remove (take (n + 1) v) i
-closed v w i n l h e =
-    let s = drop (suc i) v in
-    let m = length-drop (suc i) v in
-    let to : i + (n - i) ≡ n = omega arith in
-    let front : take n w ≡ take i v ++ take (n - i) s = ap (take n) e ∙ ap (λ k. take k (paste v i s (n - i))) (sym to) ∙ take-paste v i s (n - i) (omega arith) (omega arith) in
-    let low : take i (take (n + 1) v) ≡ take i v = take-take i (n + 1) v (omega arith) in
-    let top : n + 1 ≡ suc i + (n - i) = omega arith in
-    let high : drop (suc i) (take (n + 1) v) ≡ take (n - i) s = ap (λ k. drop (suc i) (take k v)) top ∙ drop-take (suc i) (n - i) v in
-    front ∙ cc (low, high)
-
 -- the first n elements from the back see nothing of a change among the first m
 pub far_end : {X : Type 0} (v w : List X) (m n : ℕ) → length w ≡ length v → m + n ≤ length v → drop m w ≡ drop m v → take n (reverse w) ≡ take n (reverse v)
 far_end {X} v w m n l h e = half w (omega arith) ∙ ap (λ t. take n (reverse t)) e ∙ sym (half v h)
   where
     half : (x : List X) → m + n ≤ length x → take n (reverse x) ≡ take n (reverse (drop m x))
-    half x k =
-        ap (λ t. take n (reverse t)) (sym (take-append-drop m x)) ∙ ap (take n) (reverse-append (take m x) (drop m x)) ∙ take-append-le n (reverse (drop m x)) (reverse (take m x)) (omega (arith, length-reverse (drop m x), length-drop m x))
+    half x k = let k' : n ≤ length x - m = omega arith in sym (ap (take n) (reverse_drop m x) ∙ take-take n (length x - m) (reverse x) k')
+
+-- a list up to the j-th element and from there on
+pub halves : {X : Type 0} (xs : List X) (j : ℕ) → take (j + 1) xs ++ drop (suc j) xs ≡ xs
+halves xs j = let e : j + 1 ≡ suc j = omega arith in rw e (take-append-drop (suc j) xs)
+
+-- the part from i up to j, turned one on, and one back
+module _ {X : Type 0} (xs part : List X) (i j : ℕ) (d : X) (from : i ≤ j) (within : j < length xs) where
+  -- the elements up to j, and those above it
+  abbrev front : List X
+  front = take (j + 1) xs
+
+  abbrev back : List X
+  back = drop (suc j) xs
+
+  long : length front ≡ j + 1
+  long = length-take-le (j + 1) xs (omega arith)
+
+  -- where the part lies
+  placed : put_mid i (j + 1 - i) xs part ≡ take i front ++ (part ++ back)
+  placed =
+      let e : i + (j + 1 - i) ≡ suc j = omega arith in
+      let low : take i front ≡ take i xs = take-take i (j + 1) xs (omega arith) in
+      let high : drop (j + 1 - i) (drop i xs) ≡ back = drop-drop (j + 1 - i) i xs ∙ ap (λ k. drop k xs) e in
+      cc
+
+  -- the i-th element moves to the place of the j-th
+  pub turned_back : part ≡ drop 1 (mid_of i (j + 1 - i) xs) ++ take 1 (mid_of i (j + 1 - i) xs) → put_mid i (j + 1 - i) xs part ≡ insert (remove xs i) j (get_or xs i d)
+  turned_back e =
+      let x = get_or xs i d in
+      let within' : i < length front = omega (arith, long) in
+      let n : length (remove front i) ≡ j = omega (arith, length-remove front i within', long) in
+      let mid : mid_of i (j + 1 - i) xs ≡ x ∷ drop (suc i) front = between_is xs i (j + 1) ∙ drop-cons front i d within' ∙ ap (λ y. y ∷ drop (suc i) front) (get_or-take (j + 1) xs i d (omega arith)) in
+      let to : part ≡ drop (suc i) front ++ x ∷ [] = e ∙ ap (λ m. drop 1 m ++ take 1 m) mid in
+      let joined : take i front ++ ((drop (suc i) front ++ x ∷ []) ++ back) ≡ (remove front i ++ x ∷ []) ++ back = simp append_assoc in
+      let out : remove xs i ≡ remove front i ++ back = ap (λ l. remove l i) (sym (halves xs j)) ∙ remove-append_left front back i within' in
+      let end : insert (remove front i) j x ≡ remove front i ++ x ∷ [] = ap (λ k. insert (remove front i) k x) (sym n) ∙ insert_end (remove front i) x in
+      placed ∙ ap (λ p. take i front ++ (p ++ back)) to ∙ joined ∙ sym (ap (λ l. insert l j x) out ∙ insert-append_left (remove front i) back j x (omega (arith, n)) ∙ ap (λ l. l ++ back) end)
+
+  -- the j-th element moves to the place of the i-th
+  pub turned_on : part ≡ drop (length (mid_of i (j + 1 - i) xs) - 1) (mid_of i (j + 1 - i) xs) ++ take (length (mid_of i (j + 1 - i) xs) - 1) (mid_of i (j + 1 - i) xs) → put_mid i (j + 1 - i) xs part ≡ insert (remove xs j) i (get_or xs j d)
+  turned_on e =
+      let y = get_or xs j d in
+      let low = take j xs in
+      let mid : mid_of i (j + 1 - i) xs ≡ drop i front = between_is xs i (j + 1) in
+      let n : length (mid_of i (j + 1 - i) xs) - 1 ≡ j - i = omega (arith, ap length mid, length-drop i front, long) in
+      let up : i + (j - i) ≡ j = omega arith in
+      let first : drop (j - i) (drop i front) ≡ y ∷ [] = drop-drop (j - i) i front ∙ ap (λ k. drop k front) up ∙ drop-cons front j d (omega (arith, long)) ∙ ap (λ t. get_or front j d ∷ t) (drop_all (suc j) front (omega (arith, long))) ∙ ap (λ z. z ∷ []) (get_or-take (j + 1) xs j d (omega arith)) in
+      let rest : take (j - i) (mid_of i (j + 1 - i) xs) ≡ drop i low = take-take (j - i) (j + 1 - i) (drop i xs) (omega arith) ∙ between_is xs i j in
+      let to : part ≡ y ∷ drop i low = e ∙ ap (λ k. drop k (mid_of i (j + 1 - i) xs) ++ take k (mid_of i (j + 1 - i) xs)) n ∙ ap (λ t. drop (j - i) t ++ take (j - i) (mid_of i (j + 1 - i) xs)) mid ∙ cc in
+      let before : take i front ≡ take i low = take-take i (j + 1) xs (omega arith) ∙ sym (take-take i j xs from) in
+      placed ∙ cc (to, before, append_assoc (take i low) (y ∷ drop i low) back) ∙ sym (insert-append_left low back i y (omega (arith, length-take-le j xs (omega arith))))
+
+-- an element moved from one place to another, from the back
+reverse_moved : {X : Type 0} (l : List X) (i j p q : ℕ) (x : X) → i < length l → j < length l → p ≡ length l - 1 - i → q ≡ length l - 1 - j → reverse (insert (remove l i) j x) ≡ insert (remove (reverse l) p) q x
+reverse_moved l i j p q x h k e f =
+    let n : length (remove l i) - j ≡ q = omega (arith, length-remove l i h) in
+    reverse_insert (remove l i) j x ∙ cc (reverse_remove l i h)
+
+-- the part of a side from its i-th row up to its j-th, counted from the back
+module _ (rows part : List Order) (i j k : ℕ) (d : Order) (from : i ≤ j) (within : j < length rows) (long : k ≡ length rows - i - (length rows - 1 - j)) where
+  -- its last row in the slice
+  abbrev top : ℕ
+  top = length rows - 1 - i
+
+  abbrev low : ℕ
+  low = length rows - 1 - j
+
+  count : k ≡ top + 1 - low
+  count = omega arith
+
+  -- turned one back
+  pub far_turned_back : part ≡ drop 1 (mid_of low k rows) ++ take 1 (mid_of low k rows) → reverse (put_mid low k rows part) ≡ insert (remove (reverse rows) j) i (get_or (reverse rows) j d)
+  far_turned_back e =
+      let moved = turned_back rows part low top d (omega arith) (omega arith) (subst (λ n. part ≡ drop 1 (mid_of low n rows) ++ take 1 (mid_of low n rows)) count e) in
+      ap (λ n. reverse (put_mid low n rows part)) count ∙ ap reverse moved ∙ reverse_moved rows low top j i (get_or rows low d) (omega arith) (omega arith) (omega arith) (omega arith) ∙ ap (insert (remove (reverse rows) j) i) (sym (get_or-reverse rows j d within))
+
+  -- and on
+  pub far_turned_on : part ≡ drop (length (mid_of low k rows) - 1) (mid_of low k rows) ++ take (length (mid_of low k rows) - 1) (mid_of low k rows) → reverse (put_mid low k rows part) ≡ insert (remove (reverse rows) i) j (get_or (reverse rows) i d)
+  far_turned_on e =
+      let moved = turned_on rows part low top d (omega arith) (omega arith) (subst (λ n. part ≡ drop (length (mid_of low n rows) - 1) (mid_of low n rows) ++ take (length (mid_of low n rows) - 1) (mid_of low n rows)) count e) in
+      ap (λ n. reverse (put_mid low n rows part)) count ∙ ap reverse moved ∙ reverse_moved rows top low i j (get_or rows top d) (omega arith) (omega arith) (omega arith) (omega arith) ∙ ap (insert (remove (reverse rows) i) j) (sym (get_or-reverse rows i d (omega arith)))
+
+-- a row written over the one that was put in
+pub put_over : {X : Type 0} (xs : List X) (i : ℕ) (x y : X) → i ≤ length xs → set (insert xs i x) i y ≡ insert xs i y
+put_over xs i x y h = set_at (take i xs) x (drop i xs) y i (length-take-le i xs h)
+
+-- the last n elements, from the back
+pub last_rows : {X : Type 0} (xs rest : List X) (i n : ℕ) → i + n ≡ length xs → rest ≡ between i (length xs) xs → reverse rest ≡ take n (reverse xs)
+last_rows xs rest i n h e =
+    let m : length xs - i ≡ n = omega arith in
+    ap reverse (e ∙ between_to_end xs i (length xs) (omega arith)) ∙ reverse_drop i xs ∙ ap (λ k. take k (reverse xs)) m

@@ -52,8 +52,8 @@ fits_in : (b : RankedBook) → length (orders_in b) ≤ capacity_in b
 unfolding queue
 fits_in b =
     let h = b.sides in
-    omega (arith, length_meaning h, length-take h.buys (view Buy h.rows.now), length-take h.sells (view Sell h.rows.now), b.fits)
+    omega (arith, length_meaning h, length-take h.buys (view Buy h.rows.now), length-take h.sells (view Sell h.rows.now))
 
 -- what holds of every ranked book
 pub ranked_kept : Kept orders_in capacity_in
-ranked_kept = record { standing = λ b. (rank_in b).held.standing; bounded = λ b. (rank_in b).held.bounded; fitting = fits_in; limited = λ b. b.small }
+ranked_kept = record { standing = λ b. (rank_in b).held.standing; bounded = λ b. (rank_in b).held.bounded; fitting = fits_in; limited = λ b. b.sides.small }

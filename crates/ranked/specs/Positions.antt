@@ -1,24 +1,21 @@
--- Positions in a queue: by rank, by number, and counted from 1.
-use Rattle.std.specs.Prelude.{◌≡◌, ℕ, suc, ◌-◌, ◌<◌, cond, ◌&&◌, List, [], ◌∷◌, get_or, Some, None, Option, nat_le, nat_lt, slice_index_or}
-use Rattle.model.specs.declared.types.Side.{Side}
+-- Positions in a queue: by number, and counted from 1.
+use Rattle.std.specs.Prelude.{◌≡◌, ℕ, ◌-◌, ◌<◌, cond, ◌&&◌, List, get_or, Some, None, Option, nat_le, nat_lt, slice_index_or}
 use Rattle.model.specs.declared.types.Side.TheVariants.{Buy, Sell}
 use Rattle.model.specs.declared.types.Order.{Order}
 use Rattle.model.specs.Orders.{find}
-use Rattle.model.specs.Rank.{before}
 use Rattle.rows.specs.Rows.{blank}
 use Rattle.ranked.specs.Queues.{count_of, queue}
 use Rattle.ranked.specs.declared.sides.Sides.{Sides}
 use Rattle.ranked.specs.declared.position.Position.{Position}
 
--- how many orders stand before the first that an order ranks before
-abbrev pub rank_among : Side → Order → List Order → ℕ
-rank_among s o [] = 0
-rank_among s o (x ∷ xs) = cond (before s o x) 0 (suc (rank_among s o xs))
+-- the order with the number n stands at p
+abbrev pub StandsAt : Sides → ℕ → Position → Type 0
+StandsAt h n p = (p.index < count_of p.side h) × ((get_or (queue p.side h) p.index blank).number ≡ n)
 
 -- the order with the number n stands there, or neither queue has it
 abbrev pub Located : Sides → ℕ → Option Position → Type 0
 Located h n None = (find n (queue Buy h) ≡ None) × (find n (queue Sell h) ≡ None)
-Located h n (Some p) = (p.index < count_of p.side h) × ((get_or (queue p.side h) p.index blank).number ≡ n)
+Located h n (Some p) = StandsAt h n p
 
 -- the n-th of so many orders, from 1, by its index
 abbrev pub nth_of : ℕ → ℕ → List Order → Option Order

@@ -1,5 +1,5 @@
-ghost use Rattle.std.specs.Prelude.{◌≡◌, suc, ◌+◌, ◌-◌, ◌<◌, ◌≤◌, ◌∷◌, length, drop, slice_index_or, slice_set};
-ghost use Rattle.std.proofs.Math.Seq.{paste};
+ghost use Rattle.std.specs.Prelude.{◌≡◌, ◌<◌, ◌≤◌, length, slice_index_or, slice_set};
+ghost use Rattle.std.specs.List.{insert, remove};
 ghost use Rattle.rows.specs.Rows.{blank};
 ghost use Rattle.ranked.specs.Views.{view, row_index};
 
@@ -23,47 +23,40 @@ pub(crate) fn write_row(rows: &mut [Order], side: Side, i: usize, order: Order)
     rows[at] = order;
 }
 
-// Puts an order in as the i-th row, and moves the rows from there up to the end one on.
-pub(crate) fn insert_row(rows: &mut [Order], side: Side, i: usize, end: usize, order: Order)
-    requires from { i ≤ end }
-    requires upto { end < length rows.old }
-    ensures { view side rows.new ≡ paste (view side rows.old) i (order ∷ drop i (view side rows.old)) (suc end - i) }
+// Puts an order in as the i-th row, and moves the rows from there on one on, over the last.
+pub(crate) fn insert_row(rows: &mut [Order], side: Side, i: usize, last: usize, order: Order)
+    requires from { i ≤ last }
+    requires upto { last < length rows.old }
+    ensures { view side rows.new ≡ insert (remove (view side rows.old) last) i order }
 {
-    let mut moved = order;
-    for j in i..end + 1 {
-        moved = exchange_row(rows, side, j, moved);
-    }
-}
-
-// Takes the i-th row out, and moves the rows above it, up to the end, one back.
-pub(crate) fn remove_row(rows: &mut [Order], side: Side, i: usize, end: usize)
-    requires from { i ≤ end }
-    requires upto { end < length rows.old }
-    ensures { view side rows.new ≡ paste (view side rows.old) i (drop (suc i) (view side rows.old)) (end - i) }
-{
-    for j in i..end {
-        pull_row(rows, side, j);
-    }
-}
-
-// Writes an order over the i-th row, and answers the row that stood there.
-fn exchange_row(rows: &mut [Order], side: Side, i: usize, order: Order) -> Order
-    requires { i < length rows.old }
-    ensures stood { result ≡ slice_index_or (view side rows.old) i blank }
-    ensures after { view side rows.new ≡ slice_set (view side rows.old) i order }
-{
-    let stood = read_row(rows, side, i);
+    open_row(rows, side, i, last);
     write_row(rows, side, i, order);
-    stood
 }
 
-// Writes the row above the i-th over it.
-fn pull_row(rows: &mut [Order], side: Side, i: usize)
-    requires { i + 1 < length rows.old }
-    ensures { view side rows.new ≡ slice_set (view side rows.old) i (slice_index_or (view side rows.old) (i + 1) blank) }
+// Moves the last row to the i-th place, and those from there on one on.
+fn open_row(rows: &mut [Order], side: Side, i: usize, last: usize)
+    requires from { i ≤ last }
+    requires upto { last < length rows.old }
+    ensures { view side rows.new ≡ insert (remove (view side rows.old) last) i (slice_index_or (view side rows.old) last blank) }
 {
-    let next = read_row(rows, side, i + 1);
-    write_row(rows, side, i, next);
+    let count = rows.len();
+    match side {
+        Side::Buy => rows[i..last + 1].rotate_right(1),
+        Side::Sell => rows[count - 1 - last..count - i].rotate_left(1),
+    }
+}
+
+// Moves the i-th row to the last place, and those above it one back.
+pub(crate) fn remove_row(rows: &mut [Order], side: Side, i: usize, last: usize)
+    requires from { i ≤ last }
+    requires upto { last < length rows.old }
+    ensures { view side rows.new ≡ insert (remove (view side rows.old) i) last (slice_index_or (view side rows.old) i blank) }
+{
+    let count = rows.len();
+    match side {
+        Side::Buy => rows[i..last + 1].rotate_left(1),
+        Side::Sell => rows[count - 1 - last..count - i].rotate_right(1),
+    }
 }
 
 // The index of the i-th of so many rows, counted from the end of a side.

@@ -1,12 +1,16 @@
 ghost use Rattle.std.specs.Prelude.{◌≡◌, ◌+◌, ◌<◌, ◌≤◌, min, length, slice_index_or, slice_set};
 ghost use Rattle.std.specs.List.{insert, remove};
+ghost use Rattle.std.specs.Slice.Iter.{iter_rest};
 ghost use Rattle.model.specs.declared.types.Side.TheVariants.{Buy, Sell};
 ghost use Rattle.model.specs.Rank.{opposite};
 ghost use Rattle.book.specs.Meaning.{max_capacity};
 ghost use Rattle.rows.specs.Rows.{blank};
-ghost use Rattle.ranked.specs.Queues.{count_of, capacity_of, queue, Fits, HasRoom, Changed};
+ghost use Rattle.ranked.specs.Views.{view};
+ghost use Rattle.ranked.specs.Queues.{count_of, capacity_of, queue, HasRoom, Changed};
 
 use crate::moving::{insert_row, read_row, remove_row, write_row};
+use crate::orders::Orders;
+use crate::position::Position;
 use crate::sides::Sides;
 use model::{Order, Side};
 
@@ -26,6 +30,7 @@ impl<'a> Sides<'a> {
     }
 
     // How many orders a side has.
+    // two counts and a match: an array of both would need a number for each side
     pub(crate) fn len(&self, side: Side) -> usize
         ensures { result ≡ count_of side self.now }
     {
@@ -37,8 +42,6 @@ impl<'a> Sides<'a> {
 
     // How many orders both sides have.
     pub(crate) fn count(&self) -> usize
-        requires fits { Fits self.now }
-        requires small { capacity_of self.now ≤ max_capacity }
         ensures { result ≡ count_of Buy self.now + count_of Sell self.now }
     {
         self.buys + self.sells
@@ -51,75 +54,68 @@ impl<'a> Sides<'a> {
         self.rows.len()
     }
 
-    // The order at an index of a side.
-    pub(crate) fn at(&self, side: Side, i: usize) -> Order
-        requires fits { Fits self.now }
-        requires within { i < count_of side self.now }
-        ensures { result ≡ slice_index_or (queue side self.now) i blank }
+    // The orders of a side, the first in rank first.
+    pub(crate) fn orders(&self, side: Side) -> Orders<'_>
+        ensures { view result.side (iter_rest result.rows) ≡ queue side self.now }
     {
-        read_row(self.rows, side, i)
+        let rows = match side {
+            Side::Buy => self.rows[..self.buys].iter(),
+            Side::Sell => self.rows[self.capacity() - self.sells..].iter(),
+        };
+        Orders { rows, side }
     }
 
-    // Writes an order over the one at an index.
-    pub(crate) fn replace(&mut self, side: Side, i: usize, order: Order)
-        requires fits { Fits self.old }
-        requires within { i < count_of side self.old }
-        ensures fits { Fits self.new }
-        ensures after { Changed side (slice_set (queue side self.old) i order) self.old self.new }
+    // The order at a position.
+    pub(crate) fn at(&self, at: Position) -> Order
+        requires { at.index < count_of at.side self.now }
+        ensures { result ≡ slice_index_or (queue at.side self.now) at.index blank }
+    {
+        read_row(self.rows, at.side, at.index)
+    }
+
+    // Writes an order over the one at a position.
+    pub(crate) fn replace(&mut self, at: Position, order: Order)
+        requires { at.index < count_of at.side self.old }
+        ensures after { Changed at.side (slice_set (queue at.side self.old) at.index order) self.old self.new }
         ensures room { capacity_of self.new ≡ capacity_of self.old }
     {
-        write_row(self.rows, side, i, order);
+        write_row(self.rows, at.side, at.index, order);
     }
 
-    // Puts an order in at an index, and moves the later ones.
-    pub(crate) fn insert(&mut self, side: Side, i: usize, order: Order)
+    // Puts an order in at a position, and moves the later ones.
+    pub(crate) fn insert(&mut self, at: Position, order: Order)
         requires free { HasRoom self.old }
-        requires within { i ≤ count_of side self.old }
-        ensures fits { Fits self.new }
-        ensures after { Changed side (insert (queue side self.old) i order) self.old self.new }
+        requires within { at.index ≤ count_of at.side self.old }
+        ensures after { Changed at.side (insert (queue at.side self.old) at.index order) self.old self.new }
         ensures room { capacity_of self.new ≡ capacity_of self.old }
     {
-        let end = self.len(side);
-        insert_row(self.rows, side, i, end, order);
-        self.grow(side);
+        let count = self.len(at.side);
+        insert_row(self.rows, at.side, at.index, count, order);
+        self.set_len(at.side, count + 1);
     }
 
-    // Takes the order at an index out, and moves the later ones.
-    pub(crate) fn remove(&mut self, side: Side, i: usize)
-        requires fits { Fits self.old }
-        requires within { i < count_of side self.old }
+    // Takes the order at a position out, and moves the later ones.
+    pub(crate) fn remove(&mut self, at: Position)
+        requires { at.index < count_of at.side self.old }
         ensures free { HasRoom self.new }
-        ensures after { Changed side (remove (queue side self.old) i) self.old self.new }
+        ensures after { Changed at.side (remove (queue at.side self.old) at.index) self.old self.new }
         ensures room { capacity_of self.new ≡ capacity_of self.old }
     {
-        let end = self.len(side) - 1;
-        remove_row(self.rows, side, i, end);
-        self.shrink(side);
+        let last = self.len(at.side) - 1;
+        remove_row(self.rows, at.side, at.index, last);
+        self.set_len(at.side, last);
     }
 
-    // A side has one order more.
-    fn grow(&mut self, side: Side)
-        requires { count_of side self.old < capacity_of self.old }
-        ensures own { count_of side self.new ≡ count_of side self.old + 1 }
+    // A side has so many orders now.
+    fn set_len(&mut self, side: Side, count: usize)
+        requires { count + count_of (opposite side) self.old ≤ capacity_of self.old }
+        ensures own { count_of side self.new ≡ count }
         ensures others { count_of (opposite side) self.new ≡ count_of (opposite side) self.old }
         ensures rows { self.new.rows.now ≡ self.old.rows.now }
     {
         match side {
-            Side::Buy => self.buys += 1,
-            Side::Sell => self.sells += 1,
-        }
-    }
-
-    // A side has one order less.
-    fn shrink(&mut self, side: Side)
-        requires { 0 < count_of side self.old }
-        ensures own { count_of side self.new + 1 ≡ count_of side self.old }
-        ensures others { count_of (opposite side) self.new ≡ count_of (opposite side) self.old }
-        ensures rows { self.new.rows.now ≡ self.old.rows.now }
-    {
-        match side {
-            Side::Buy => self.buys -= 1,
-            Side::Sell => self.sells -= 1,
+            Side::Buy => self.buys = count,
+            Side::Sell => self.sells = count,
         }
     }
 }

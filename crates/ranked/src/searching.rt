@@ -1,11 +1,11 @@
-ghost use Rattle.std.specs.Prelude.{◌≡◌, ◌<◌, ◌≤◌, true, T, None, slice_index_or};
-ghost use Rattle.model.specs.declared.types.Side.TheVariants.{Buy, Sell};
+ghost use Rattle.std.specs.Prelude.{◌≡◌, ◌<◌, T, None, MatchOption, slice_index_or};
+ghost use Rattle.std.specs.List.{position_or_len};
 ghost use Rattle.model.specs.Orders.{find};
-ghost use Rattle.model.specs.Rank.{insert as ranked_in};
-ghost use Rattle.book.specs.Meaning.{max_capacity, all_below};
+ghost use Rattle.model.specs.Rank.{before, insert as ranked_in};
+ghost use Rattle.book.specs.Meaning.{all_below};
 ghost use Rattle.rows.specs.Rows.{blank};
-ghost use Rattle.ranked.specs.Queues.{count_of, capacity_of, queue, Fits, HasRoom, Changed, may_add};
-ghost use Rattle.ranked.specs.Positions.{rank_among, Located, nth_of};
+ghost use Rattle.ranked.specs.Queues.{count_of, capacity_of, queue, HasRoom, Changed};
+ghost use Rattle.ranked.specs.Positions.{StandsAt, Located, nth_of};
 
 use crate::position::Position;
 use crate::sides::Sides;
@@ -13,38 +13,25 @@ use model::{Order, Side};
 use rows::comes_before;
 
 impl<'a> Sides<'a> {
-    // Puts an order in where it ranks.
-    pub(crate) fn enter(&mut self, side: Side, order: Order)
+    // Puts an order in where it ranks on its side.
+    // a free row is required, and no fact of the type: a full table has none
+    pub(crate) fn enter(&mut self, order: Order)
         requires { HasRoom self.old }
-        ensures fits { Fits self.new }
-        ensures after { Changed side (ranked_in side order (queue side self.old)) self.old self.new }
+        ensures after { Changed order.side (ranked_in order.side order (queue order.side self.old)) self.old self.new }
         ensures room { capacity_of self.new ≡ capacity_of self.old }
     {
-        let i = self.rank_of(side, order);
-        self.insert(side, i, order);
-    }
-
-    // Whether an order may be added: a row is free, something is left, and its number is above all others, which may be known already.
-    pub(crate) fn may_add(&self, order: Order, above: bool) -> bool
-        requires fits { Fits self.now }
-        requires small { capacity_of self.now ≤ max_capacity }
-        requires known { above ≡ true → (all_below (queue Buy self.now) order.number ≡ true) × (all_below (queue Sell self.now) order.number ≡ true) }
-        ensures { result ≡ may_add self.now order }
-    {
-        self.count() < self.capacity()
-            && 0 < order.left
-            && (above
-                || self.are_below(Side::Buy, order.number)
-                    && self.are_below(Side::Sell, order.number))
+        let index = self.rank_of(order);
+        let side = order.side;
+        self.insert(Position { side, index }, order);
     }
 
     // The n-th order of a side, counted from 1.
     pub(crate) fn nth(&self, side: Side, n: usize) -> Option<Order>
-        requires { Fits self.now }
         ensures { result ≡ nth_of n (count_of side self.now) (queue side self.now) }
     {
         if 0 < n && n <= self.len(side) {
-            Some(self.at(side, n - 1))
+            let index = n - 1;
+            Some(self.at(Position { side, index }))
         } else {
             None
         }
@@ -52,80 +39,49 @@ impl<'a> Sides<'a> {
 
     // Where the order with a number stands.
     pub(crate) fn locate(&self, number: u64) -> Option<Position>
-        requires { Fits self.now }
         ensures { Located self.now number result }
     {
         // the first in rank is the one that trades, so both are looked at before any other
-        if self.is_first(Side::Sell, number) {
-            return Some(Position {
-                side: Side::Sell,
-                index: 0,
-            });
+        let side = Side::Sell;
+        if self.is_first(side, number) {
+            return Some(Position { side, index: 0 });
         }
-        let i = self.index_of(Side::Buy, number);
-        if i < self.len(Side::Buy) {
-            return Some(Position {
-                side: Side::Buy,
-                index: i,
-            });
+        if let Some(at) = self.locate_on(Side::Buy, number) {
+            return Some(at);
         }
-        let j = self.index_of(Side::Sell, number);
-        if j < self.len(Side::Sell) {
-            return Some(Position {
-                side: Side::Sell,
-                index: j,
-            });
-        }
-        None
+        self.locate_on(side, number)
+    }
+
+    // Whether all numbers of a side are below a number.
+    pub(crate) fn are_below(&self, side: Side, number: u64) -> bool
+        ensures { result ≡ all_below (queue side self.now) number }
+    {
+        self.orders(side).all(|order| order.number < number)
     }
 
     // Whether the first order of a side has a number.
     fn is_first(&self, side: Side, number: u64) -> bool
-        requires { Fits self.now }
         ensures { T result → (0 < count_of side self.now) × ((slice_index_or (queue side self.now) 0 blank).number ≡ number) }
     {
-        self.len(side) > 0 && self.at(side, 0).number == number
+        self.nth(side, 1)
+            .is_some_and(|order| order.number == number)
     }
 
-    // The index of the order with a number, or the count of the side.
-    fn index_of(&self, side: Side, number: u64) -> usize
-        requires { Fits self.now }
-        ensures stands { result < count_of side self.now → (slice_index_or (queue side self.now) result blank).number ≡ number }
-        ensures none { count_of side self.now ≤ result → find number (queue side self.now) ≡ None }
+    // Where the order with a number stands on a side.
+    fn locate_on(&self, side: Side, number: u64) -> Option<Position>
+        ensures { MatchOption result (find number (queue side self.now) ≡ None) (λ at. StandsAt self.now number at) }
     {
-        let count = self.len(side);
-        for i in 0..count {
-            if self.at(side, i).number == number {
-                return i;
-            }
-        }
-        count
+        let index = self.orders(side).position(|order| order.number == number)?;
+        Some(Position { side, index })
     }
 
-    // How many orders of a side an order ranks behind.
-    fn rank_of(&self, side: Side, order: Order) -> usize
-        requires { Fits self.now }
-        ensures { result ≡ rank_among side order (queue side self.now) }
+    // How many orders of its side an order ranks behind.
+    fn rank_of(&self, order: Order) -> usize
+        ensures { result ≡ position_or_len (before order.side order) (queue order.side self.now) }
     {
-        let count = self.len(side);
-        for i in 0..count {
-            if comes_before(side, order, self.at(side, i)) {
-                return i;
-            }
-        }
-        count
-    }
-
-    // Whether all numbers of a side are below a number.
-    fn are_below(&self, side: Side, number: u64) -> bool
-        requires { Fits self.now }
-        ensures { result ≡ all_below (queue side self.now) number }
-    {
-        for i in 0..self.len(side) {
-            if self.at(side, i).number >= number {
-                return false;
-            }
-        }
-        true
+        let side = order.side;
+        self.orders(side)
+            .position(|other| comes_before(side, order, *other))
+            .unwrap_or(self.len(side))
     }
 }

@@ -1,6 +1,5 @@
-ghost use Rattle.std.specs.Prelude.{◌≡◌, ◌+◌, ◌≤◌, true};
-ghost use Rattle.book.specs.Meaning.{max_capacity, all_below};
-ghost use Rattle.ranked.specs.Queues.{capacity_of, Fits};
+ghost use Rattle.std.specs.Prelude.{◌≡◌, ◌+◌, true};
+ghost use Rattle.book.specs.Meaning.{all_below};
 ghost use Rattle.ranked.specs.InRank.{meaning, InRank};
 
 use crate::sides::Sides;
@@ -11,8 +10,6 @@ use crate::sides::Sides;
 pub struct RankedBook<'a> {
     pub(crate) sides: Sides<'a>,
     pub(crate) top: u64,
-    ghost fits: { Fits sides },
-    ghost small: { capacity_of sides ≤ max_capacity },
     ghost in_rank: { ∥ InRank sides ∥₁ },
     ghost below: { all_below (meaning sides) (top + 1) ≡ true },
 }

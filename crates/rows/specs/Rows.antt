@@ -7,6 +7,7 @@ use Rattle.model.specs.declared.types.OrderPrice.TheVariants.{Market}
 use Rattle.model.specs.declared.types.Order.{Order}
 use Rattle.model.specs.Numbers.{max_number}
 use Rattle.model.specs.Orders.{Standing}
+use Rattle.model.specs.Standing.{standing_prop}
 use Rattle.book.specs.Bounds.{Bounded}
 
 -- what is read where no row is
@@ -17,10 +18,6 @@ blank = record { number = 0; member = 0; side = Buy; price = Market; left = 0 }
 pub record Held (os : List Order) : Type 0 where
   pub standing : Standing 0 os max_number
   pub bounded : AllByRecursion Bounded os
-
-standing_prop : (lo hi : ℕ) (os : List Order) → IsProp (Standing lo os hi)
-standing_prop lo hi [] p q = λ i. le_prop p q i
-standing_prop lo hi (o ∷ os) p q = λ i. (le_prop p.0 q.0 i, le_prop p.1 q.1 i, standing_prop o.number hi os p.2 q.2 i)
 
 bounded_prop : (o : Order) → IsProp (Bounded o)
 bounded_prop o p q = λ i. record {

@@ -1,8 +1,8 @@
-// The plain rows that a table of orders is kept in: which of two comes first, and the standing order of a row.
+// The plain rows that a table of orders is kept in: which of two comes first, and what becomes of one.
 #![tactic(auto)]
 
 mod orders;
 mod ranks;
 
-pub use orders::{limited, lowered, row_of, standing_of};
+pub use orders::{after_take, after_turn, limited, lowered};
 pub use ranks::comes_before;

@@ -1,30 +1,30 @@
 ghost use Rattle.std.specs.Prelude.{◌≡◌, ◌-◌, if◌then◌else◌, Some, None};
 ghost use Rattle.model.specs.declared.types.OrderPrice.TheVariants.{Limit};
 ghost use Rattle.model.specs.Orders.{with_left, with_price};
-ghost use Rattle.book.specs.Bounds.{in_bounds};
-ghost use Rattle.book.specs.Plain.{plain, as_plain};
+ghost use Rattle.book.specs.Meaning.{can_take, can_turn};
 
-use book::StandingOrder;
 use model::{Order, OrderPrice};
 
-// The row of a standing order.
-pub fn row_of(order: StandingOrder) -> Order
-    ensures { result ≡ plain order }
+// What becomes of an order of which an amount is taken, or nothing where the amount may not be taken.
+pub fn after_take(order: Order, amount: u64) -> Option<Order>
+    ensures { result ≡ (if can_take amount (Some order) then Some (with_left order (order.left - amount)) else None) }
 {
-    Order {
-        number: order.number,
-        member: order.member,
-        side: order.side,
-        price: order.price,
-        left: order.left,
+    if 0 < amount && amount <= order.left {
+        Some(lowered(order, amount))
+    } else {
+        None
     }
 }
 
-// The standing order of a row, after a check of its bounds: a slice may hold anything.
-pub fn standing_of(row: Order) -> Option<StandingOrder>
-    ensures { as_plain result ≡ (if in_bounds row then Some row else None) }
+// What becomes of a market order that is turned, or nothing where it may not be turned.
+pub fn after_turn(order: Order, price: u32) -> Option<Order>
+    ensures { result ≡ (if can_turn price (Some order) then Some (with_price order (Limit price)) else None) }
 {
-    StandingOrder::new(row.number, row.member, row.side, row.price, row.left)
+    if order.price.is_market() && 1 <= price && price <= 99_999 {
+        Some(limited(order, price))
+    } else {
+        None
+    }
 }
 
 // The row with so much less left, down to nothing.
@@ -32,11 +32,8 @@ pub fn lowered(row: Order, amount: u64) -> Order
     ensures { result ≡ with_left row (row.left - amount) }
 {
     Order {
-        number: row.number,
-        member: row.member,
-        side: row.side,
-        price: row.price,
         left: row.left.saturating_sub(amount),
+        ..row
     }
 }
 
@@ -45,10 +42,7 @@ pub fn limited(row: Order, price: u32) -> Order
     ensures { result ≡ with_price row (Limit price) }
 {
     Order {
-        number: row.number,
-        member: row.member,
-        side: row.side,
         price: OrderPrice::Limit(price),
-        left: row.left,
+        ..row
     }
 }

@@ -1,5 +1,2 @@
-pub mod Asked
 pub mod Fine
-pub mod Keeping
-pub mod Turning
 pub mod Auctions

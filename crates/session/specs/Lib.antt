@@ -1,4 +1,3 @@
 pub mod Called
 pub mod Views
-pub mod Lists
 pub mod Tokens

@@ -14,11 +14,6 @@ abbrev pub without_token : Result (Option CalledPrice) Refusal → Result ℕ Re
 without_token (Ok t) = Ok 0
 without_token (Err e) = Err e
 
--- the price of a point, with the quantity that trades at it
-abbrev pub token_of : Option Point → Option CalledPrice
-token_of None = None
-token_of (Some x) = Some (record { price = x.price; quantity = traded x })
-
 -- the called price is that of the point that a call finds, and the session waits for its strike
 abbrev pub PricedToken : Rule → State → State → Option CalledPrice → Type 0
 PricedToken r s s' None = call_price r s.settings s.orders ≡ None

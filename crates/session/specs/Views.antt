@@ -1,7 +1,5 @@
 -- What a session stands for, given the ghost members of its book.
 use Rattle.std.specs.Prelude.{ℕ, List}
-use Rattle.model.specs.declared.types.Call.{Call}
-use Rattle.model.specs.declared.types.Call.TheVariants.{Enter, Withdraw, BeginRandom, Auction, Close}
 use Rattle.model.specs.declared.types.Order.{Order}
 use Rattle.model.specs.Orders.{Standing}
 use Rattle.model.specs.State.{State}
@@ -15,14 +13,6 @@ use Rattle.session.specs.declared.session.Session.{Session}
 abbrev pub state : {B R : Type 0} {b : BookMembers B} {r : RuleMembers R} → (B → List Order) → (B → ℕ) → Session B R b r → State
 state orders capacity s = view (plain s.settings) s.day (orders s.book) (capacity s.book)
 
--- no standing order has a number above the last one given; a session that is made has it, and every call keeps it
+-- no standing order has a number above the last one given, as in every session
 abbrev pub Sound : State → Type 0
 Sound s = Standing 0 s.orders s.last
-
--- what the outcome of a call rests on: a new order's number has to be above all that stand; the other calls rest on nothing
-abbrev pub RestsOn : Call → State → Type 0
-RestsOn (Enter e) s = Sound s
-RestsOn (Withdraw m n) s = Unit {0}
-RestsOn BeginRandom s = Unit {0}
-RestsOn Auction s = Unit {0}
-RestsOn Close s = Unit {0}

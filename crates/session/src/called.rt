@@ -2,6 +2,7 @@ ghost use Rattle.std.specs.Prelude.{◌≡◌};
 
 // A called price with its quantity. It comes from a call alone and has no copy.
 // A strike or a put-back spends it: its quantity is then 0, and only then may it be let go.
+// Price and quantity are its own fields: a struct of both that a phase or a quote shares would have a copy.
 pub struct CalledPrice {
     pub(crate) price: u32,
     pub(crate) quantity: u64,
@@ -26,10 +27,18 @@ impl CalledPrice {
         self.price
     }
 
-    // How much trades at it, 0 once it is spent.
+    // How much trades at it, 0 once it is spent. No Option: nothing that is called has a quantity of 0, and the token is plain numbers.
     pub fn quantity(&self) -> u64
         ensures { result ≡ self.now.quantity }
     {
         self.quantity
+    }
+
+    // It is spent: nothing of it is left to trade.
+    pub(crate) fn spend(&mut self)
+        ensures quantity { self.new.quantity ≡ 0 }
+        ensures price { self.new.price ≡ self.old.price }
+    {
+        self.quantity = 0;
     }
 }

@@ -1,10 +1,10 @@
 ghost use Rattle.std.specs.Prelude.{◌≡◌, ℕ, ◌<◌, true, length, is_ok, MatchResult, OnErr};
-ghost use Rattle.model.specs.declared.types.Phase.TheVariants.{Called, Random};
+ghost use Rattle.model.specs.declared.types.Phase.TheVariants.{Called};
 ghost use Rattle.model.specs.Numbers.{code};
 ghost use Rattle.model.specs.Calls.{ask_called, scratch_after, call as call_outcome, strike as strike_outcome, put_back as put_back_outcome};
 ghost use Rattle.model.specs.Views.{refusal_of, answer_of, Came};
-ghost use Rattle.session.specs.Tokens.{without_token, token_of, Told, Spent};
-ghost use Rattle.session.specs.Views.{state, Sound};
+ghost use Rattle.session.specs.Tokens.{without_token, Told, Spent};
+ghost use Rattle.session.specs.Views.{state};
 
 use crate::called::CalledPrice;
 use crate::session::Session;
@@ -25,33 +25,11 @@ impl<B: Book, R: PriceRule> Session<B, R> {
         ensures came { Came (call_outcome (R.rule self.old.rule.below) (state B.orders B.capacity self.old) (length tape.old) (length scratch.old)) (without_token result) (state B.orders B.capacity self.new) tape.old self.old.day.used tape.new }
         ensures scratch { scratch.new ≡ scratch_after (state B.orders B.capacity self.old) scratch.old }
         ensures token { Told (R.rule self.old.rule.below) (state B.orders B.capacity self.old) (state B.orders B.capacity self.new) result }
-        ensures sound { Sound (state B.orders B.capacity self.old) → Sound (state B.orders B.capacity self.new) }
         ensures rule { self.new.rule ≡ self.old.rule }
     {
-        match self.day.phase {
-            Phase::PreOpening => Err(Refusal::WrongPhase),
-            Phase::Random => self.call_found(tape, scratch),
-            Phase::Called {
-                price: _,
-                quantity: _,
-            } => Err(Refusal::WrongPhase),
-            Phase::Trading => Err(Refusal::WrongPhase),
-            Phase::Closed => Err(Refusal::WrongPhase),
+        if self.day.phase != Phase::Random {
+            return Err(Refusal::WrongPhase);
         }
-    }
-
-    // Calls a price in the random period.
-    fn call_found(
-        &mut self,
-        tape: &mut [TapeRecord],
-        scratch: &mut [Point],
-    ) -> Result<Option<CalledPrice>, Refusal>
-        requires { self.old.day.phase ≡ Random }
-        ensures came { Came (call_outcome (R.rule self.old.rule.below) (state B.orders B.capacity self.old) (length tape.old) (length scratch.old)) (without_token result) (state B.orders B.capacity self.new) tape.old self.old.day.used tape.new }
-        ensures scratch { scratch.new ≡ scratch_after (state B.orders B.capacity self.old) scratch.old }
-        ensures token { Told (R.rule self.old.rule.below) (state B.orders B.capacity self.old) (state B.orders B.capacity self.new) result }
-        ensures rule { self.new.rule ≡ self.old.rule }
-    {
         let found = call(
             &mut self.book,
             &self.rule,
@@ -60,7 +38,10 @@ impl<B: Book, R: PriceRule> Session<B, R> {
             tape,
             scratch,
         )?;
-        Ok(token_of(found))
+        Ok(found.map(|point| CalledPrice {
+            price: point.price,
+            quantity: point.traded(),
+        }))
     }
 
     // Strikes the called price: trades its quantity at it, and begins trading about it. Answers the quantity. A refusal leaves the session as it was.
@@ -74,25 +55,9 @@ impl<B: Book, R: PriceRule> Session<B, R> {
         ensures token { Spent called.old called.new result }
         ensures price { called.new.price ≡ called.old.price }
         ensures kept { OnErr result (state B.orders B.capacity self.new ≡ state B.orders B.capacity self.old) }
-        ensures sound { Sound (state B.orders B.capacity self.old) → Sound (state B.orders B.capacity self.new) }
         ensures rule { self.new.rule ≡ self.old.rule }
     {
-        check_called(self.day.phase, called)?;
-        self.strike_checked(called, tape)
-    }
-
-    // Strikes the price that is called.
-    fn strike_checked(
-        &mut self,
-        called: &mut CalledPrice,
-        tape: &mut [TapeRecord],
-    ) -> Result<u64, Refusal>
-        requires { self.old.day.phase ≡ Called called.old.price called.old.quantity }
-        ensures came { Came (strike_outcome (state B.orders B.capacity self.old) (length tape.old) called.old.price called.old.quantity) result (state B.orders B.capacity self.new) tape.old self.old.day.used tape.new }
-        ensures token { Spent called.old called.new result }
-        ensures price { called.new.price ≡ called.old.price }
-        ensures rule { self.new.rule ≡ self.old.rule }
-    {
+        self.check_called(called)?;
         let traded = strike_called(
             &mut self.book,
             &self.settings,
@@ -101,7 +66,7 @@ impl<B: Book, R: PriceRule> Session<B, R> {
             called.quantity,
             tape,
         )?;
-        spend(called);
+        called.spend();
         Ok(traded)
     }
 
@@ -114,52 +79,29 @@ impl<B: Book, R: PriceRule> Session<B, R> {
         ensures token { Spent called.old called.new result }
         ensures price { called.new.price ≡ called.old.price }
         ensures own { self.old.day.phase ≡ Called called.old.price called.old.quantity → called.new.quantity ≡ 0 }
-        ensures sound { Sound (state B.orders B.capacity self.old) → Sound (state B.orders B.capacity self.new) }
         ensures rule { self.new.rule ≡ self.old.rule }
     {
-        check_called(self.day.phase, called)?;
+        self.check_called(called)?;
         self.day.phase = Phase::Random;
-        spend(called);
+        called.spend();
         Ok(0)
     }
-}
 
-// The token of the point that was found.
-fn token_of(found: Option<Point>) -> Option<CalledPrice>
-    ensures { result ≡ token_of found }
-{
-    match found {
-        None => None,
-        Some(point) => Some(CalledPrice {
-            price: point.price,
-            quantity: point.traded(),
-        }),
-    }
-}
-
-// The called price is spent: nothing of it is left to trade.
-fn spend(called: &mut CalledPrice)
-    ensures { (called.new.quantity ≡ 0) × (called.new.price ≡ called.old.price) }
-{
-    called.quantity = 0;
-}
-
-// Whether this price and this quantity are those called.
-fn check_called(phase: Phase, called: &CalledPrice) -> Result<(), Refusal>
-    ensures own { phase ≡ Called called.now.price called.now.quantity → is_ok result ≡ true }
-    ensures asked { MatchResult result (λ _. phase ≡ Called called.now.price called.now.quantity) (λ e. ((rest : ℕ) → ask_called phase called.now.price called.now.quantity rest ≡ code e)) }
-{
-    match phase {
-        Phase::PreOpening => Err(Refusal::WrongPhase),
-        Phase::Random => Err(Refusal::WrongPhase),
-        Phase::Called { price, quantity } => {
-            if called.price == price && called.quantity == quantity {
-                Ok(())
-            } else {
-                Err(Refusal::ForeignCalledPrice)
-            }
+    // Whether this price and this quantity are those called.
+    fn check_called(&self, called: &CalledPrice) -> Result<(), Refusal>
+        ensures own { self.now.day.phase ≡ Called called.now.price called.now.quantity → is_ok result ≡ true }
+        ensures asked { MatchResult result (λ _. self.now.day.phase ≡ Called called.now.price called.now.quantity) (λ e. ((rest : ℕ) → ask_called self.now.day.phase called.now.price called.now.quantity rest ≡ code e)) }
+    {
+        let own = Phase::Called {
+            price: called.price,
+            quantity: called.quantity,
+        };
+        if self.day.phase == own {
+            Ok(())
+        } else if matches!(self.day.phase, Phase::Called { .. }) {
+            Err(Refusal::ForeignCalledPrice)
+        } else {
+            Err(Refusal::WrongPhase)
         }
-        Phase::Trading => Err(Refusal::WrongPhase),
-        Phase::Closed => Err(Refusal::WrongPhase),
     }
 }

@@ -2,23 +2,20 @@ ghost use Rattle.std.specs.Prelude.{◌≡◌, length};
 ghost use Rattle.model.specs.Entry.{enter as enter_of};
 ghost use Rattle.model.specs.Calls.{withdraw as withdraw_of, begin_random as begin_random_of, close as close_of};
 ghost use Rattle.model.specs.Views.{refusal_of, answer_of, Came};
-ghost use Rattle.session.specs.Views.{state, Sound};
+ghost use Rattle.session.specs.Views.{state};
 
 use crate::session::Session;
-use crate::steps::step;
 use book::Book;
-use model::{Call, Entry, Point, Refusal, TapeRecord};
+use model::{Call, Entry, Refusal, TapeRecord};
 use pricing::PriceRule;
 
 impl<B: Book, R: PriceRule> Session<B, R> {
     // Enters an order, and answers its number.
     pub fn enter(&mut self, entry: Entry, tape: &mut [TapeRecord]) -> Result<u64, Refusal>
-        ensures came { Sound (state B.orders B.capacity self.old) → Came (enter_of (state B.orders B.capacity self.old) (length tape.old) entry) result (state B.orders B.capacity self.new) tape.old self.old.day.used tape.new }
-        ensures sound { Sound (state B.orders B.capacity self.old) → Sound (state B.orders B.capacity self.new) }
+        ensures came { Came (enter_of (state B.orders B.capacity self.old) (length tape.old) entry) result (state B.orders B.capacity self.new) tape.old self.old.day.used tape.new }
         ensures rule { self.new.rule ≡ self.old.rule }
     {
-        let mut unused: [Point; 0] = [];
-        step(self, Call::Enter(entry), tape, &mut unused)
+        self.step(Call::Enter(entry), tape, &mut [])
     }
 
     // Withdraws all that is left of a member's order, and answers it.
@@ -29,11 +26,9 @@ impl<B: Book, R: PriceRule> Session<B, R> {
         tape: &mut [TapeRecord],
     ) -> Result<u64, Refusal>
         ensures came { Came (withdraw_of (state B.orders B.capacity self.old) (length tape.old) member number) result (state B.orders B.capacity self.new) tape.old self.old.day.used tape.new }
-        ensures sound { Sound (state B.orders B.capacity self.old) → Sound (state B.orders B.capacity self.new) }
         ensures rule { self.new.rule ≡ self.old.rule }
     {
-        let mut unused: [Point; 0] = [];
-        step(self, Call::Withdraw { member, number }, tape, &mut unused)
+        self.step(Call::Withdraw { member, number }, tape, &mut [])
     }
 
     // Begins the random period.
@@ -41,21 +36,16 @@ impl<B: Book, R: PriceRule> Session<B, R> {
         ensures refusal { refusal_of result ≡ (begin_random_of (state B.orders B.capacity self.old)).refusal }
         ensures answer { answer_of result ≡ 0 }
         ensures state { state B.orders B.capacity self.new ≡ (begin_random_of (state B.orders B.capacity self.old)).state }
-        ensures sound { Sound (state B.orders B.capacity self.old) → Sound (state B.orders B.capacity self.new) }
         ensures rule { self.new.rule ≡ self.old.rule }
     {
-        let mut unwritten: [TapeRecord; 0] = [];
-        let mut unused: [Point; 0] = [];
-        step(self, Call::BeginRandom, &mut unwritten, &mut unused)
+        self.step(Call::BeginRandom, &mut [], &mut [])
     }
 
     // Withdraws every order that stands, ends the day, and answers how many they were.
     pub fn close(&mut self, tape: &mut [TapeRecord]) -> Result<u64, Refusal>
         ensures came { Came (close_of (state B.orders B.capacity self.old) (length tape.old)) result (state B.orders B.capacity self.new) tape.old self.old.day.used tape.new }
-        ensures sound { Sound (state B.orders B.capacity self.old) → Sound (state B.orders B.capacity self.new) }
         ensures rule { self.new.rule ≡ self.old.rule }
     {
-        let mut unused: [Point; 0] = [];
-        step(self, Call::Close, tape, &mut unused)
+        self.step(Call::Close, tape, &mut [])
     }
 }

@@ -4,11 +4,9 @@ ghost use Rattle.model.specs.Numbers.{code, no_refusal};
 ghost use Rattle.model.specs.Making.{New};
 ghost use Rattle.model.specs.Run.{run as outcomes, list_refusal, calls_run, Ran};
 ghost use Rattle.model.specs.Laws.{Kept};
-ghost use Rattle.session.specs.Views.{state, Sound};
-ghost use Rattle.session.specs.Lists.{shown};
+ghost use Rattle.session.specs.Views.{state};
 
 use crate::session::Session;
-use crate::steps::step;
 use book::Book;
 use model::{Answer, Call, Point, Refusal, TapeRecord};
 use pricing::PriceRule;
@@ -22,29 +20,16 @@ pub fn run<B: Book, R: PriceRule>(
     scratch: &mut [Point],
 ) -> Result<usize, Refusal>
     ensures refusal { MatchResult result (λ n. (list_refusal (length answers.old) calls.now ≡ no_refusal) × (n ≡ length calls.now)) (λ e. list_refusal (length answers.old) calls.now ≡ code e) }
-    ensures ran { Sound (state B.orders B.capacity session.old) → Ran (R.rule session.old.rule.below) (length tape.old) (length scratch.old) (state B.orders B.capacity session.old) (state B.orders B.capacity session.new) (calls_run (length answers.old) calls.now) answers.old answers.new tape.old tape.new scratch.old scratch.new }
+    ensures ran { Ran (R.rule session.old.rule.below) (length tape.old) (length scratch.old) (state B.orders B.capacity session.old) (state B.orders B.capacity session.new) (calls_run (length answers.old) calls.now) answers.old answers.new tape.old tape.new scratch.old scratch.new }
     ensures laws { New (state B.orders B.capacity session.old) → Kept (R.rule session.old.rule.below) (length tape.old) (state B.orders B.capacity session.old) (calls_run (length answers.old) calls.now) (outcomes (R.rule session.old.rule.below) (length tape.old) (length scratch.old) (state B.orders B.capacity session.old) (calls_run (length answers.old) calls.now)) }
-    ensures sound { Sound (state B.orders B.capacity session.old) → Sound (state B.orders B.capacity session.new) }
     ensures rule { session.new.rule ≡ session.old.rule }
 {
     if answers.len() < calls.len() {
         return Err(Refusal::AnswersTooShort);
     }
+    // Answers by index: after a zip with iter_mut no proof knows what they hold.
     for (i, call) in calls.iter().enumerate() {
-        answers[i] = shown(step(session, *call, tape, scratch));
+        answers[i] = Answer::from(session.step(*call, tape, scratch));
     }
     Ok(calls.len())
-}
-
-// The answer of a call of a list: the refusal's number and the answer, 0 where there is none.
-fn shown(res: Result<u64, Refusal>) -> Answer
-    ensures { result ≡ shown res }
-{
-    match res {
-        Ok(answer) => Answer { refusal: 0, answer },
-        Err(why) => Answer {
-            refusal: why.code(),
-            answer: 0,
-        },
-    }
 }

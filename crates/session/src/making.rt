@@ -1,29 +1,22 @@
 ghost use Rattle.std.specs.Prelude.{◌≡◌, MatchResult};
 ghost use Rattle.model.specs.Numbers.{code, no_refusal};
 ghost use Rattle.model.specs.Making.{make_refusal, made, New};
-ghost use Rattle.grid.specs.Views.{given};
-ghost use Rattle.session.specs.Views.{state, Sound};
+ghost use Rattle.grid.specs.Views.{offered};
+ghost use Rattle.session.specs.Views.{state};
 
 use crate::session::Session;
 use book::Book;
-use grid::Settings;
+use grid::{Settings, Terms};
 use model::{DayState, Phase, Refusal};
 use pricing::{MostTraded, PriceRule};
 
 impl<B: Book, R: PriceRule> Session<B, R> {
     // A new session in pre-opening over an empty book, or the first question that is answered no, with book and rule given back.
-    pub fn new(
-        tick: u32,
-        indicative: u32,
-        absolute: u32,
-        static_band: u32,
-        last_number: u64,
-        book: B,
-        rule: R,
-    ) -> Result<Session<B, R>, (Refusal, B, R)>
-        ensures { MatchResult result (λ s. (make_refusal (given tick indicative absolute static_band) last_number (B.orders book) ≡ no_refusal) × (state B.orders B.capacity s ≡ made (given tick indicative absolute static_band) last_number (B.orders book) (B.capacity book)) × (s.book ≡ book) × (s.rule.below ≡ rule) × New (state B.orders B.capacity s) × Sound (state B.orders B.capacity s)) (λ e. (code e.0 ≡ make_refusal (given tick indicative absolute static_band) last_number (B.orders book)) × (e.1 ≡ book) × (e.2 ≡ rule)) }
+    pub fn new(terms: Terms, book: B, rule: R) -> Result<Session<B, R>, (Refusal, B, R)>
+        ensures { MatchResult result (λ s. (make_refusal (offered terms) terms.last_number (B.orders book) ≡ no_refusal) × (state B.orders B.capacity s ≡ made (offered terms) terms.last_number (B.orders book) (B.capacity book)) × (s.book ≡ book) × (s.rule.below ≡ rule) × New (state B.orders B.capacity s)) (λ e. (code e.0 ≡ make_refusal (offered terms) terms.last_number (B.orders book)) × (e.1 ≡ book) × (e.2 ≡ rule)) }
     {
-        let settings = match Settings::new(tick, indicative, absolute, static_band, last_number) {
+        // A match, and no map_err: book and rule go back with the refusal, and are still needed without one.
+        let settings = match Settings::try_from(terms) {
             Ok(settings) => settings,
             Err(why) => return Err((why, book, rule)),
         };
@@ -38,7 +31,7 @@ impl<B: Book, R: PriceRule> Session<B, R> {
             day: DayState {
                 phase: Phase::PreOpening,
                 reference: settings.indicative,
-                last: last_number,
+                last: terms.last_number,
                 used: 0,
             },
         })

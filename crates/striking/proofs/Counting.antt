@@ -1,8 +1,9 @@
 -- A count of the trades of a strike, one trade after another.
-use Rattle.std.proofs.Common.{◌≡◌, ℕ, ◌+◌, ◌-◌, ◌<◌, ◌≤◌, Bool, true, false, cond, ◌&&◌, ◌||◌, eqb, leb, ◌⊎◌, List, [], ◌∷◌, length, drop, filter, sym, refl, ap, ◌∙◌, subst, ap₂, inl, inr, ⊎_elim, arith}
+use Rattle.std.proofs.Common.{◌≡◌, ℕ, ◌+◌, ◌-◌, ◌<◌, ◌≤◌, Bool, true, false, cond, ◌&&◌, eqb, leb, List, [], ◌∷◌, length, drop, filter, sym, refl, ap, ◌∙◌, subst, ap₂, inl, inr, ⊎_elim, arith}
 use Rattle.std.specs.List.{AllByRecursion}
 use Rattle.std.proofs.ByRecursion.{All-drop, all_kept_by}
-use Rattle.std.proofs.lemmas.Bool.{and_left, and_parts, and_right, cases_Bool, cases_eq, cond_both, cond-false, cond-true, eq-eqb, eqb-true, eqb-false, le-leb, lt-leb, ne_eqb, or_from, or_left, or_right, false≢true}
+use Rattle.std.proofs.lemmas.Bool.Decides.{nat_tests}
+use Rattle.std.proofs.lemmas.Bool.{and_left, cases_eq, cond_both, cond-false, cond-true, eq-eqb, eqb-true, eqb-false, le-leb, lt-leb, ne_eqb}
 use Rattle.model.specs.declared.types.Side.{Side}
 use Rattle.model.specs.declared.types.Side.TheVariants.{Buy, Sell}
 use Rattle.model.specs.declared.types.OrderPrice.{OrderPrice}
@@ -13,7 +14,7 @@ use Rattle.model.specs.declared.types.TapeRecord.TheVariants.{Trade}
 use Rattle.model.specs.Grid.{Settings, active}
 use Rattle.model.specs.Rank.{ranked}
 use Rattle.model.specs.Orders.{Standing, is_market, with_left}
-use Rattle.model.specs.Records.{traded_of, total_traded}
+use Rattle.model.specs.Records.{traded_of}
 use Rattle.model.specs.Calls.{is_market_order}
 use Rattle.model.specs.Auction.{pair, trades_at, idle}
 use Rattle.model.proofs.Ranking.{Distinct, distinct_kept, distinct_ranked}
@@ -24,43 +25,33 @@ use Rattle.walking.specs.Walks.{actives}
 use Rattle.striking.specs.declared.sizes.Progress.{Progress}
 use Rattle.striking.specs.declared.sizes.Tally.{Tally}
 use Rattle.striking.specs.Parties.{willing, parties, Leads}
-use Rattle.striking.specs.Counts.{spend, first_left, fresh, progress, advanced, next_quantity, one_more, open_parties, open_trades, SideCounted, Counts}
+use Rattle.striking.specs.Counts.{spend, first_left, fresh, progress, start, advanced, next_quantity, one_more, open_parties, open_trades, SideCounted, Counts}
 use Rattle.striking.proofs.Walked.{at_price_parties, has_at_place}
 use Rattle.striking.proofs.Stepping.{pair_step}
+use Rattle.striking.proofs.Lasting.{trade_loud}
 use Rattle.striking.proofs.Trading.{sell_not_bought, buy_not_sold}
 
 -- a filter that passes only active orders
 market_active : (g : Settings) (c : OrderPrice) → is_market c ≡ true → active g c ≡ true
 market_active g Market h = refl
-market_active g (Limit p) h = absurd (false≢true h)
+market_active g (Limit p) h = absurd cc
 
 kept_active : (g : Settings) (f : Order → Bool) → ((o : Order) → f o ≡ true → is_market_order o ≡ true) → (xs : List Order) → filter f (actives g xs) ≡ filter f xs
 kept_active g f w [] = refl
-kept_active g f w (x ∷ xs) =
-    let i = kept_active g f w xs in
-    cond_both (active g x.price) _ _ (λ l. filter f l ≡ filter f (x ∷ xs))
-    (λ _. ap (λ l. cond (f x) (x ∷ l) l) i)
-    (λ e. i ∙ sym (cond-false (f x) (x ∷ filter f xs) (filter f xs) (⊎_elim (λ t. absurd (false≢true (sym e ∙ market_active g x.price (w x t)))) (λ t. t) (cases_Bool (f x)))))
+kept_active g f w (x ∷ xs) = grind (arith, market_active g x.price, w x, kept_active g f w xs)
 
 idle_market : (ts : List TapeRecord) (o : Order) → idle ts o ≡ true → is_market_order o ≡ true
-idle_market ts o h = (and_parts (is_market o.price) (eqb (total_traded o.number ts) 0) h).0
+idle_market ts o h = grind arith
 
 -- without trades every market order is idle
 idle_none : (xs : List Order) → filter (idle []) xs ≡ filter is_market_order xs
 idle_none [] = refl
-idle_none (x ∷ xs) = ap (λ l. cond (idle [] x) (x ∷ l) l) (idle_none xs) ∙ ap (λ b. cond b (x ∷ filter is_market_order xs) (filter is_market_order xs)) (and_true (is_market x.price))
-  where
-    and_true : (b : Bool) → (b && true) ≡ b
-    and_true true = refl
-    and_true false = refl
+idle_none (x ∷ xs) = grind (arith, idle_none xs)
 
 -- a trade of others leaves the idle orders idle
 idle_past : (r : TapeRecord) (us : List TapeRecord) (xs : List Order) → AllByRecursion (λ y. traded_of y.number r ≡ 0) xs → filter (idle (r ∷ us)) xs ≡ filter (idle us) xs
 idle_past r us [] h = refl
-idle_past r us (x ∷ xs) h =
-    let same : total_traded x.number (r ∷ us) ≡ total_traded x.number us = omega (arith, h.0) in
-    ap (λ z. cond (is_market x.price && eqb z 0) (x ∷ filter (idle (r ∷ us)) xs) (filter (idle (r ∷ us)) xs)) same
-    ∙ ap (λ l. cond (idle us x) (x ∷ l) l) (idle_past r us xs h.1)
+idle_past r us (x ∷ xs) h = grind (arith, nat_tests, h.0, idle_past r us xs h.1)
 
 -- one side, once its first party o has traded with the order m of the other side
 module _ (g : Settings) (s : Side) (p : ℕ) (os : List Order) (d : Distinct os) (ts us : List TapeRecord) (r : TapeRecord) (x : Progress) (k : ℕ) (o : Order) (f : Leads g s p os x.place k o) (h : SideCounted g s p os ts (r ∷ us) x)
@@ -86,7 +77,7 @@ module _ (g : Settings) (s : Side) (p : ℕ) (os : List Order) (d : Distinct os)
       go (y ∷ ys) a b = (quiet y.number a.0 b.0, go ys a.1 b.1)
 
   busy : idle (r ∷ us) o ≡ false
-  busy = and_right (is_market o.price) (eqb (total_traded o.number (r ∷ us)) 0) (ne_eqb (total_traded o.number (r ∷ us)) 0 (λ z. omega (arith, loud)))
+  busy = grind (arith, nat_tests, loud)
 
   -- a filter over the orders that were fresh
   was_fresh : (P : List Order → Type 0) → (x.spent ≡ 0 → P (o ∷ later)) → ((x.spent ≡ 0 → ⊥) → P later) → P (fresh x.spent (actives g (drop x.place rank)))
@@ -150,13 +141,9 @@ open_more g s p os x k o f t limited =
     ∙ ap (λ q. with_left o q ∷ ps) (omega arith)
     ∙ sym (cond-false (leb (o.left - x.spent) t) ps (with_left o ((o.left - x.spent) - t) ∷ ps) (lt-leb (o.left - x.spent) t (omega (arith, eqb-false (x.spent + t) o.left e)))))
 
--- a trade shows its two parties, and no other
+-- and no other
 trade_quiet : (b s p q n : ℕ) → (b ≡ n → ⊥) → (s ≡ n → ⊥) → traded_of n (Trade b s p q) ≡ 0
-trade_quiet b s p q n i j = cond-false (eqb b n || eqb s n) q 0 (or_from (eqb b n) (eqb s n) (ne_eqb b n i) (ne_eqb s n j))
-
-trade_loud : (b s p q n : ℕ) → 1 ≤ q → (b ≡ n) ⊎ (s ≡ n) → 1 ≤ traded_of n (Trade b s p q)
-trade_loud b s p q n l (inl e) = omega (arith, cond-true (eqb b n || eqb s n) q 0 (or_left (eqb b n) (eqb s n) (eq-eqb b n e)))
-trade_loud b s p q n l (inr e) = omega (arith, cond-true (eqb b n || eqb s n) q 0 (or_right (eqb b n) (eqb s n) (eq-eqb s n e)))
+trade_quiet b s p q n i j = grind (arith, nat_tests)
 
 -- of the first party something is left
 pub spent_less : (g : Settings) (s : Side) (p : ℕ) (os : List Order) (ts us : List TapeRecord) (x : Progress) (k : ℕ) (o : Order) → Leads g s p os x.place k o → SideCounted g s p os ts us x → x.spent < o.left
@@ -214,20 +201,17 @@ module _ (g : Settings) (p v hi : ℕ) (os : List Order) (st : Standing 0 os hi)
 
 -- a count begins with nothing counted
 module _ (g : Settings) (p v : ℕ) (os : List Order) where
-  abbrev start : Tally
-  start = record { trades = 0; remaining = v; buys = progress 0 0 0; sells = progress 0 0 0 }
-
-  open_start : open_trades g p os start ≡ trades_at g p v os
+  open_start : open_trades g p os (start v) ≡ trades_at g p v os
   open_start = ap₂ (λ xs ys. pair p xs ys v) (spend_none (parties g Buy p 0 os) ∙ sym (at_price_parties g Buy p os)) (spend_none (parties g Sell p 0 os) ∙ sym (at_price_parties g Sell p os))
 
-  side_start : (s : Side) → SideCounted g s p os (trades_at g p v os) (open_trades g p os start) (progress 0 0 0)
+  side_start : (s : Side) → SideCounted g s p os (trades_at g p v os) (open_trades g p os (start v)) (progress 0 0 0)
   side_start s = subst (λ l. SideCounted g s p os (trades_at g p v os) l (progress 0 0 0)) (sym open_start) (record {
     behind = sym (kept_active g (idle (trades_at g p v os)) (idle_market (trades_at g p v os)) (ranked s os));
     counted = sym (omega (arith, ap length (kept_active g is_market_order (λ o e. e) (ranked s os))));
     limited = omega arith;
   })
 
-  pub counts_start : Counts g p v os start
+  pub counts_start : Counts g p v os (start v)
   counts_start = record { trades = omega (arith, ap length open_start); limited = omega arith; buys = side_start Buy; sells = side_start Sell }
 
 -- and ends with the market orders that are not counted

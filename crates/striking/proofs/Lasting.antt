@@ -1,14 +1,15 @@
 -- The last order of a side that trades is the only one of that side that trades in part.
-use Rattle.std.proofs.Common.{◌≡◌, ℕ, zero, suc, ◌+◌, ◌-◌, ◌<◌, ◌≤◌, min, cond, ◌||◌, eqb, leb, ◌⊎◌, List, [], ◌∷◌, sym, refl, ap, ◌∙◌, subst, inl, inr, ⊎_elim, arith}
+use Rattle.std.proofs.Common.{◌≡◌, ℕ, zero, suc, ◌+◌, ◌-◌, ◌<◌, ◌≤◌, min, cond, eqb, leb, ◌⊎◌, List, [], ◌∷◌, sym, refl, ap, ◌∙◌, subst, inl, inr, ⊎_elim, arith}
 use Rattle.std.specs.List.{AllByRecursion}
-use Rattle.std.proofs.lemmas.Bool.{cond_both, cond-true, cond-false, cases_eq, eq-eqb, leb-true, leb-false, lt-leb, or_left, or_right}
+use Rattle.std.proofs.lemmas.Bool.Decides.{nat_tests}
+use Rattle.std.proofs.lemmas.Bool.{cond_both, cond-false, cases_eq, leb-true, lt-leb}
 use Rattle.model.specs.declared.types.Side.{Side}
 use Rattle.model.specs.declared.types.Side.TheVariants.{Buy, Sell}
 use Rattle.model.specs.declared.types.Order.{Order}
 use Rattle.model.specs.declared.types.TapeRecord.{TapeRecord}
 use Rattle.model.specs.declared.types.TapeRecord.TheVariants.{Trade, Withdrawal}
 use Rattle.model.specs.Orders.{with_left, left_in}
-use Rattle.model.specs.Records.{total_traded}
+use Rattle.model.specs.Records.{traded_of, total_traded}
 use Rattle.model.specs.Auction.{pair}
 use Rattle.model.proofs.Ranking.{Distinct}
 use Rattle.model.proofs.Standing.{counts, counts_not}
@@ -20,7 +21,7 @@ use Rattle.model.proofs.Commuting.{rest_of}
 use Rattle.striking.proofs.Stepping.{pair_closed, pair_no_sells, pair_step}
 
 alive_rest : (o : Order) (t : ℕ) (os : List Order) → Alive os → Alive (rest_of o t os)
-alive_rest o t os h = cond_both (leb o.left t) _ _ Alive (λ _. h) (λ e. (omega (arith, leb-false o.left t e), h))
+alive_rest o t os h = cond_both (leb o.left t) _ _ Alive (λ _. h) (λ e. (grind (arith, nat_tests), h))
 
 distinct_rest : (o : Order) (t : ℕ) (os : List Order) → Distinct (o ∷ os) → Distinct (rest_of o t os)
 distinct_rest o t os h = cond_both (leb o.left t) _ _ Distinct (λ _. h.1) (λ _. h)
@@ -115,13 +116,13 @@ module _ (p : ℕ) (bs ss : List Order) (v : ℕ) (ab : Alive bs) (sb : Alive ss
       ))
       v bs ss v (omega arith) ab sb
 
--- the last order of a side did trade
-trades_party : (b s q n : ℕ) → 1 ≤ q → (b ≡ n) ⊎ (s ≡ n) → cond (eqb b n || eqb s n) q 0 ≡ 0 → ⊥
-trades_party b s q n l (inl e) z = omega (arith, cond-true (eqb b n || eqb s n) q 0 (or_left (eqb b n) (eqb s n) (eq-eqb b n e)))
-trades_party b s q n l (inr e) z = omega (arith, cond-true (eqb b n || eqb s n) q 0 (or_right (eqb b n) (eqb s n) (eq-eqb s n e)))
+-- a trade shows its two parties
+pub trade_loud : (b s p q n : ℕ) → 1 ≤ q → (b ≡ n) ⊎ (s ≡ n) → 1 ≤ traded_of n (Trade b s p q)
+trade_loud b s p q n l e = grind (arith, nat_tests)
 
+-- the last order of a side did trade
 pub last_trades : (s : Side) (ts : List TapeRecord) → AllByRecursion Positive ts → (d n : ℕ) → last_party s d ts ≡ n → total_traded n ts ≡ 0 → d ≡ n
 last_trades s [] h d n e z = e
-last_trades Buy (Trade b s p q ∷ ts) h d n e z = absurd (trades_party b s q n h.0 (inl (last_trades Buy ts h.1 b n e (omega arith))) (omega arith))
-last_trades Sell (Trade b s p q ∷ ts) h d n e z = absurd (trades_party b s q n h.0 (inr (last_trades Sell ts h.1 s n e (omega arith))) (omega arith))
+last_trades Buy (Trade b s p q ∷ ts) h d n e z = absurd (omega (arith, trade_loud b s p q n h.0 (inl (last_trades Buy ts h.1 b n e (omega arith)))))
+last_trades Sell (Trade b s p q ∷ ts) h d n e z = absurd (omega (arith, trade_loud b s p q n h.0 (inr (last_trades Sell ts h.1 s n e (omega arith)))))
 last_trades s (Withdrawal m q r ∷ ts) h d n e z = absurd h.0

@@ -1,5 +1,5 @@
-pub mod Walked
 pub mod Stepping
+pub mod Walked
 pub mod Trading
 pub mod Going
 pub mod Lasting

@@ -1,6 +1,7 @@
 -- Pairing one trade at a time: the first buy meets the first sell, and what remains of both goes on.
-use Rattle.std.proofs.Common.{◌≡◌, ℕ, ◌-◌, ◌<◌, ◌≤◌, min, eqb, ltb, leb, List, [], ◌∷◌, ◌++◌, sym, refl, ap, ◌∙◌, subst, ⊎_elim, arith}
-use Rattle.std.proofs.lemmas.Bool.{cond_both, cond-true, cond-false, eq-eqb, ne_eqb, leb-true, leb-false, lt-ltb, le-ltb, le-leb, lt-leb, cases_lt}
+use Rattle.std.proofs.Common.{◌≡◌, ℕ, ◌-◌, ◌<◌, ◌≤◌, min, leb, List, [], ◌∷◌, ◌++◌, sym, refl, ap, ◌∙◌, subst, ⊎_elim, arith}
+use Rattle.std.proofs.lemmas.Bool.Decides.{nat_tests}
+use Rattle.std.proofs.lemmas.Bool.{cond_both, cond-true, cond-false, leb-true, leb-false, le-leb, lt-leb, cases_lt}
 use Rattle.model.specs.declared.types.Order.{Order}
 use Rattle.model.specs.declared.types.TapeRecord.{TapeRecord}
 use Rattle.model.specs.declared.types.TapeRecord.TheVariants.{Trade}
@@ -11,7 +12,7 @@ use Rattle.model.proofs.Commuting.{rest_of}
 -- a buy of nothing, and an open volume of nothing, take no sell
 one_empty : (p n q : ℕ) (ss : List Order) (v : ℕ) → min q v ≡ 0 → pair_one p n q ss v ≡ paired [] ss v
 one_empty p n q [] v e = refl
-one_empty p n q (s ∷ ss) v e = cond-true (eqb (min (min q s.left) v) 0) _ _ (eq-eqb (min (min q s.left) v) 0 (omega arith))
+one_empty p n q (s ∷ ss) v e = grind (arith, nat_tests)
 
 pub pair_closed : (p : ℕ) (bs ss : List Order) (v : ℕ) → v ≡ 0 → pair p bs ss v ≡ []
 pair_closed p [] ss v e = refl
@@ -40,7 +41,7 @@ module _ (p : ℕ) (b : Order) (bs : List Order) (s : Order) (ss : List Order) (
   sell_remains l =
       let t : ℕ = first_quantity in
       let sells : List Order = with_left s (s.left - t) ∷ ss in
-      let one : pair_one p b.number b.left (s ∷ ss) v ≡ paired (first_trade ∷ []) sells (v - t) = cond-false (eqb t 0) _ _ (ne_eqb t 0 (omega arith)) ∙ cond-true (ltb t s.left) _ _ (lt-ltb t s.left l) in
+      let one : pair_one p b.number b.left (s ∷ ss) v ≡ paired (first_trade ∷ []) sells (v - t) = grind (arith, nat_tests) in
       let buys : pair p bs sells (v - t) ≡ pair p (rest_of b t bs) sells (v - t) = cond_both (leb b.left t) bs (with_left b (b.left - t) ∷ bs) (λ l. pair p bs sells (v - t) ≡ pair p l sells (v - t)) (λ _. refl) (λ w. let z : v - t ≡ 0 = omega (arith, leb-false b.left t w) in pair_closed p bs sells (v - t) z ∙ sym (pair_closed p (with_left b (b.left - t) ∷ bs) sells (v - t) z)) in
       ap followed one ∙ ap (λ l. first_trade ∷ l) (buys ∙ ap (λ l. pair p (rest_of b t bs) l (v - t)) (sym (cond-false (leb s.left t) ss sells (lt-leb s.left t l))))
 
@@ -48,7 +49,7 @@ module _ (p : ℕ) (b : Order) (bs : List Order) (s : Order) (ss : List Order) (
   sell_filled l =
       let t : ℕ = first_quantity in
       let next : Paired = pair_one p b.number (b.left - t) ss (v - t) in
-      let one : pair_one p b.number b.left (s ∷ ss) v ≡ add_trade first_trade next = cond-false (eqb t 0) _ _ (ne_eqb t 0 (omega arith)) ∙ cond-false (ltb t s.left) _ _ (le-ltb t s.left l) in
+      let one : pair_one p b.number b.left (s ∷ ss) v ≡ add_trade first_trade next = grind (arith, nat_tests) in
       let buys : followed next ≡ pair p (rest_of b t bs) ss (v - t) = cond_both (leb b.left t) bs (with_left b (b.left - t) ∷ bs) (λ l. followed next ≡ pair p l ss (v - t)) (λ w. ap followed (one_empty p b.number (b.left - t) ss (v - t) (omega (arith, leb-true b.left t w)))) (λ _. refl) in
       ap followed one ∙ ap (λ l. first_trade ∷ l) (buys ∙ ap (λ l. pair p (rest_of b t bs) l (v - t)) (sym (cond-true (leb s.left t) ss (with_left s (s.left - t) ∷ ss) (le-leb s.left t l))))
 

@@ -1,9 +1,10 @@
 -- The orders and the records of a strike, from its trades and the orders that traded last.
-use Rattle.std.proofs.Common.{◌≡◌, ℕ, ◌+◌, ◌-◌, ◌*◌, ◌<◌, ◌≤◌, Bool, true, false, ◌&&◌, ◌||◌, eqb, leb, ◌⊎◌, List, [], ◌∷◌, map, length, filter, sym, refl, ap, ◌∙◌, subst, inl, inr, ⊎_elim, arith, length-append}
+use Rattle.std.proofs.Common.{◌≡◌, ℕ, ◌+◌, ◌-◌, ◌*◌, ◌<◌, ◌≤◌, Bool, true, false, cond, ◌&&◌, ◌||◌, eqb, leb, ◌⊎◌, List, [], ◌∷◌, map, length, Some, None, filter, Option, sym, refl, ap, ◌∙◌, subst, ap₂, inl, inr, ⊎_elim, arith, length-append}
 use native.Mathlib.Nat.{one-le-mul}
 use Rattle.std.specs.List.{AllByRecursion}
 use Rattle.std.proofs.ByRecursion.{all-has}
 use Rattle.std.proofs.lemmas.List.{length-map}
+use Rattle.std.proofs.lemmas.Bool.Decides.{nat_tests}
 use Rattle.std.proofs.lemmas.Bool.{and_from, and_parts, cases_eq, cases_lt, cond_both, eq-eqb, le-leb, leb-true, ne_eqb, not_from_false, not_from_true, or_from, or_left, or_right}
 use Rattle.model.specs.declared.types.Side.{Side}
 use Rattle.model.specs.declared.types.Side.TheVariants.{Buy, Sell}
@@ -13,21 +14,23 @@ use Rattle.model.specs.declared.types.Reason.TheVariants.{AfterAuction}
 use Rattle.model.specs.Numbers.{max_price, in_range}
 use Rattle.model.specs.Grid.{Settings, on_grid, within}
 use Rattle.model.specs.Curve.{takes_part}
-use Rattle.model.specs.Orders.{Standing, left_in, withdrawal}
+use Rattle.model.specs.Orders.{Standing, find, turn, left_in, withdrawal}
 use Rattle.model.specs.Records.{total_traded}
 use Rattle.model.specs.Calls.{is_market_order}
 use Rattle.model.specs.Auction.{at_price, trades_at, apply_trades, idle, struck_orders, struck_records}
 use Rattle.model.proofs.Lists.{all_from_has}
 use Rattle.model.proofs.Ranking.{Distinct}
-use Rattle.model.proofs.Standing.{counts_not, SameOrder, map_standing, standing_above, standing_alive, standing_distinct}
+use Rattle.model.proofs.Standing.{SameOrder, map_standing, standing_above, standing_alive, standing_distinct}
 use Rattle.model.proofs.Taken.{left_in_has, left_in_missing, taken_le}
 use Rattle.model.proofs.Records.{bought_le_traded, sold_le_traded, traded_le_both}
 use Rattle.model.proofs.Pairing.{Alive, volume_of, pair_pairs}
 use Rattle.model.proofs.AtPrice.{all_at_price, distinct_at_price, left_in_at_price}
 use Rattle.model.proofs.Trades.{trades_limited, trades_apart}
 use Rattle.model.proofs.Struck.{trades_standing, trades_left}
-use Rattle.striking.specs.Meetings.{last_party}
-use Rattle.striking.specs.Settled.{turned}
+use Rattle.book.specs.Meaning.{can_turn}
+use Rattle.striking.specs.declared.meetings.Meeting.{Meeting}
+use Rattle.striking.specs.Meetings.{last_party, IsLast}
+use Rattle.striking.specs.Settled.{turned, turned_last}
 use Rattle.striking.proofs.Lasting.{Positive, share, Lasts, pair_positive, pair_lasts, last_trades}
 use Rattle.striking.proofs.Settling.{settle, turned_map, Told, no_market, settled_kept, idle_kept, idle_trades}
 
@@ -44,16 +47,16 @@ grid_price g p i a h =
 kept_left : (f : Order → Bool) (n : ℕ) (os : List Order) → Distinct os → (left_in (filter f os) n ≡ 0) ⊎ (left_in (filter f os) n ≡ left_in os n)
 kept_left f n [] d = inl refl
 kept_left f n (o ∷ os) d =
-    ⊎_elim
-    (λ e.
-    let gone : left_in os n ≡ 0 = left_in_missing os n (subst (λ m. AllByRecursion (λ x. m ≡ x.number → ⊥) os) e d.0) in
-    let none : left_in (filter f os) n ≡ 0 = ⊎_elim (λ z. z) (λ z. z ∙ gone) (kept_left f n os d.1) in
-    cond_both (f o) _ _ (λ l. (left_in l n ≡ 0) ⊎ (left_in l n ≡ left_in (o ∷ os) n)) (λ _. inr (omega arith)) (λ _. inl none))
-    (λ e.
-    let here = counts_not o.number n o.left e in
-    let rest : (left_in (filter f os) n ≡ 0) ⊎ (left_in (filter f os) n ≡ left_in (o ∷ os) n) = ⊎_elim (λ z. inl z) (λ z. inr (omega arith)) (kept_left f n os d.1) in
-    cond_both (f o) _ _ (λ l. (left_in l n ≡ 0) ⊎ (left_in l n ≡ left_in (o ∷ os) n)) (λ _. ⊎_elim (λ z. inl (omega arith)) (λ z. inr (omega arith)) rest) (λ _. rest))
-    (cases_eq o.number n)
+    let gone : o.number ≡ n → left_in os n ≡ 0 = λ e. left_in_missing os n (subst (λ m. AllByRecursion (λ x. m ≡ x.number → ⊥) os) e d.0) in
+    grind (arith, nat_tests, gone, kept_left f n os d.1)
+
+-- without trades the number is 0, and no order has it
+turned_missing : (n p : ℕ) (os : List Order) → n ≡ 0 → AllByRecursion (λ o. 0 < o.number) os → turned n p os ≡ os
+turned_missing n p os e h = ap (λ r. cond (can_turn p r) (turn n p os) os) (missing os h)
+  where
+    missing : (xs : List Order) → AllByRecursion (λ o. 0 < o.number) xs → find n xs ≡ None
+    missing [] k = refl
+    missing (x ∷ xs) k = grind (arith, nat_tests, k.0, missing xs k.1)
 
 module _ (g : Settings) (p v hi : ℕ) (os : List Order) (st : Standing 0 os hi) where
   abbrev ts : List TapeRecord
@@ -138,10 +141,16 @@ module _ (g : Settings) (p v hi : ℕ) (os : List Order) (st : Standing 0 os hi)
     turned_idle = ap (filter is_market_order) turned_both ∙ idle_kept ts p (last Buy) (last Sell) ended told ∙ idle_trades ts ts os trades_positive (λ n. omega arith)
 
     -- the same for what a book answers
-    pub after_turning : (b s : ℕ) (xs ys : List Order) → b ≡ last Buy → s ≡ last Sell → xs ≡ ended → ys ≡ turned s p (turned b p xs)
+    both_turned : (final : Option Meeting) → IsLast ts final → turned_last final p ended ≡ turned (last Sell) p (turned (last Buy) p ended)
+    both_turned None l =
+        let above : AllByRecursion (λ o. 0 < o.number) ended = standing_above 0 hi ended standing_ended in
+        sym (ap (turned (last Sell) p) (turned_missing (last Buy) p ended (ap (last_party Buy 0) l) above) ∙ turned_missing (last Sell) p ended (ap (last_party Sell 0) l) above)
+    both_turned (Some m) l = ap₂ (λ b s. turned s p (turned b p ended)) l.0 l.1
+
+    pub after_turning : (final : Option Meeting) (xs ys : List Order) → IsLast ts final → xs ≡ ended → ys ≡ turned_last final p xs
         → (filter no_market ys ≡ struck_orders p ts os) × (filter is_market_order ys ≡ filter (idle ts) os)
-    after_turning b s xs ys eb es ex ey =
-        let e : ys ≡ turned (last Sell) p (turned (last Buy) p ended) = ey ∙ ap (λ n. turned n p (turned b p xs)) es ∙ ap (λ n. turned (last Sell) p (turned n p xs)) eb ∙ ap (λ l. turned (last Sell) p (turned (last Buy) p l)) ex in
+    after_turning final xs ys l ex ey =
+        let e : ys ≡ turned (last Sell) p (turned (last Buy) p ended) = ey ∙ ap (turned_last final p) ex ∙ both_turned final l in
         (ap (filter no_market) e ∙ turned_orders, ap (filter is_market_order) e ∙ turned_idle)
 
 -- how many records a strike writes

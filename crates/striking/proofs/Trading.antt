@@ -15,7 +15,9 @@ use Rattle.model.proofs.Lists.{all_from_has, has_here}
 use Rattle.model.proofs.Ranking.{Distinct, distinct_ranked, of_side, same_order}
 use Rattle.model.proofs.Standing.{lower_standing, standing_distinct}
 use Rattle.model.proofs.Volumes.{find_has}
+use Rattle.book.specs.Plain.{plain}
 use Rattle.book.specs.Meaning.{can_take}
+use Rattle.striking.specs.declared.parties.Party.{Party}
 use Rattle.walking.specs.Walks.{actives}
 use Rattle.striking.specs.Parties.{willing, parties, Passed, Leads}
 use Rattle.striking.specs.Meetings.{Meets}
@@ -79,7 +81,20 @@ module _ (g : Settings) (s : Side) (p : ℕ) (os : List Order) (d : Distinct os)
         ∙ sym (ap (actives g) e)
 
 -- the first parties of both sides trade
-module _ (g : Settings) (p v hi : ℕ) (os : List Order) (st : Standing 0 os hi) (from_b from_s kb ks : ℕ) (b s : Order) (passed_b : Passed g Buy os from_b) (passed_s : Passed g Sell os from_s) (fb : Leads g Buy p os from_b kb b) (fs : Leads g Sell p os from_s ks s) (some : 1 ≤ v) (t : ℕ) (is : t ≡ min (min b.left s.left) v) where
+module _ (g : Settings) (p v hi : ℕ) (os : List Order) (st : Standing 0 os hi) (from_b from_s : ℕ) (buy sell : Party) (passed_b : Passed g Buy os from_b) (passed_s : Passed g Sell os from_s) (fb : Leads g Buy p os from_b buy.place (plain buy.order)) (fs : Leads g Sell p os from_s sell.place (plain sell.order))
+    (some : 1 ≤ v) (t : ℕ) (is : t ≡ min (min buy.order.left sell.order.left) v) where
+  abbrev kb : ℕ
+  kb = buy.place
+
+  abbrev ks : ℕ
+  ks = sell.place
+
+  abbrev b : Order
+  b = plain buy.order
+
+  abbrev s : Order
+  s = plain sell.order
+
   abbrev bought : List Order
   bought = lower b.number t os
 
@@ -127,7 +142,7 @@ module _ (g : Settings) (p v hi : ℕ) (os : List Order) (st : Standing 0 os hi)
   can_sell : can_take t (find s.number bought) ≡ true
   can_sell = ap (can_take t) (find_has bought distinct_bought s (has_lower b.number t os s (ranked_stands Sell os s has_s).0 (λ e. sides_apart os distinct b s has_b has_s e))) ∙ takeable s (omega arith)
 
-  pub met : Meets g p v os (record { buy = b.number; sell = s.number; quantity = t; buy_place = kb; sell_place = ks })
+  pub met : Meets g p v os (record { buy = buy; sell = sell; quantity = t })
   met = record {
     some = omega (arith, fb.some, fs.some);
     limited = omega arith;

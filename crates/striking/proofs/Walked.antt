@@ -1,5 +1,6 @@
 -- A walk over the orders of a side that may trade at a price.
-use Rattle.std.proofs.Common.{◌≡◌, ℕ, zero, suc, ◌+◌, Bool, true, false, cond, ◌&&◌, List, [], ◌∷◌, drop, filter, sym, refl, ap, ◌∙◌, subst, ⊎_elim}
+use Rattle.std.proofs.Common.{◌≡◌, ℕ, zero, suc, ◌+◌, ◌≤◌, Bool, true, false, cond, ◌&&◌, List, [], ◌∷◌, length, drop, filter, sym, refl, ap, ◌∙◌, subst, ⊎_elim, arith}
+use Rattle.std.specs.Bool.{then_some}
 use Rattle.std.specs.List.{ContainsAt as Has, AllByRecursion}
 use Rattle.std.proofs.lemmas.Bool.{cond-true, cond-false, cases_Bool, both_ways}
 use Rattle.std.proofs.ByRecursion.{All-drop, all-has, all_has_itself, All-weaker, kept_by_passes}
@@ -9,21 +10,22 @@ use Rattle.model.specs.Grid.{Settings, active}
 use Rattle.model.specs.Curve.{allows, takes_part}
 use Rattle.model.specs.Rank.{ranked}
 use Rattle.model.specs.Auction.{at_price}
-use Rattle.model.proofs.Lists.{Pairwise, has_here, kept_has, pairwise_kept}
+use Rattle.model.proofs.Lists.{Pairwise, has_here, kept_has, pairwise_drop, pairwise_kept}
 use Rattle.model.proofs.Ranking.{Wider, ranked_wider, of_side, all_ranked, ranked_has}
 use Rattle.walking.specs.Walks.{actives, Found}
-use Rattle.striking.specs.Parties.{willing, parties}
+use Rattle.model.specs.Orders.{Standing}
+use Rattle.model.proofs.Lengths.{length_ranked}
+use Rattle.model.proofs.Standing.{standing_alive}
+use Rattle.book.specs.Plain.{plain}
+use Rattle.book.specs.Meaning.{max_capacity}
+use Rattle.striking.specs.declared.parties.Party.{Party}
+use Rattle.striking.specs.Parties.{willing, parties, First}
 use Rattle.model.proofs.Commuting.{kept_ranked}
 
 -- a filter that nothing passes
 kept_none : (f : Order → Bool) (xs : List Order) → AllByRecursion (λ x. f x ≡ false) xs → filter f xs ≡ []
 kept_none f [] h = refl
 kept_none f (x ∷ xs) h = cond-false (f x) _ _ h.0 ∙ kept_none f xs h.1
-
-pairwise_drop : (R : Order → Order → Type 0) (j : ℕ) (xs : List Order) → Pairwise R xs → Pairwise R (drop j xs)
-pairwise_drop R zero xs h = h
-pairwise_drop R (suc j) [] h = h
-pairwise_drop R (suc j) (x ∷ xs) h = pairwise_drop R j xs h.1
 
 -- of the orders of a side, those that take part are the active ones that allow the price
 parts_willing : (g : Settings) (s : Side) (p : ℕ) (xs : List Order) → AllByRecursion (λ x. of_side s x ≡ true) xs → filter (takes_part g s p) xs ≡ willing s p (actives g xs)
@@ -46,10 +48,10 @@ none_willing s p o ys h e =
     )
 
 module _ (g : Settings) (s : Side) (p : ℕ) (os : List Order) (from k : ℕ) (o : Order) (f : Found g (ranked s os) from k o) where
-  pub party_here : allows s o.price p ≡ true → parties g s p from os ≡ o ∷ parties g s p (k + 1) os
+  party_here : allows s o.price p ≡ true → parties g s p from os ≡ o ∷ parties g s p (k + 1) os
   party_here e = ap (willing s p) f.onward ∙ cond-true (allows s o.price p) _ _ e
 
-  pub party_none : allows s o.price p ≡ false → parties g s p from os ≡ []
+  party_none : allows s o.price p ≡ false → parties g s p from os ≡ []
   party_none e =
       let wide : Pairwise (λ x y. Wider s x.price y.price) (actives g (drop from (ranked s os))) = pairwise_kept (λ x y. Wider s x.price y.price) (λ x. active g x.price) (drop from (ranked s os)) (pairwise_drop (λ x y. Wider s x.price y.price) from (ranked s os) (ranked_wider s os)) in
       let here : Pairwise (λ x y. Wider s x.price y.price) (o ∷ actives g (drop (k + 1) (ranked s os))) = subst (Pairwise (λ x y. Wider s x.price y.price)) f.onward wide in
@@ -62,3 +64,15 @@ module _ (s : Side) (os : List Order) where
 
   pub ranked_stands : (o : Order) → Has (ranked s os) o → Has os o × (of_side s o ≡ true)
   ranked_stands o h = kept_has (of_side s) os o (ranked_has s os o h)
+
+-- the first active order is the first party, or there is none
+pub first_is : (g : Settings) (s : Side) (p hi : ℕ) (os : List Order) (from : ℕ) (f : Party) → Standing 0 os hi → length os ≤ max_capacity → Found g (ranked s os) from f.place (plain f.order) → (b : Bool) → b ≡ allows s f.order.price p → First g s p os from (then_some b f)
+first_is g s p hi os from f st few h true e = record {
+  place = omega (arith, h.place, length_ranked s os, few);
+  some = all-has (λ x. 1 ≤ x.left) os (plain f.order) (standing_alive 0 hi os st) (ranked_stands s os (plain f.order) (has_at_place s os f.place (plain f.order) _ h.here)).0;
+  here = h.here;
+  none_between = h.none_between;
+  onward = h.onward;
+  first = party_here g s p os from f.place (plain f.order) h (sym e);
+}
+first_is g s p hi os from f st few h false e = party_none g s p os from f.place (plain f.order) h (sym e)

@@ -32,6 +32,10 @@ fresh q os = cond (q == 0) os (drop 1 os)
 abbrev pub progress : ℕ → ℕ → ℕ → Progress
 progress k q m = record { place = k; spent = q; markets = m }
 
+-- a count of no trade of the quantity v
+abbrev pub start : ℕ → Tally
+start v = record { trades = 0; remaining = v; buys = progress 0 0 0; sells = progress 0 0 0 }
+
 -- a side after t of the order o at place k was counted
 abbrev pub advanced : Progress → ℕ → Order → ℕ → Progress
 advanced x k o t =

@@ -5,10 +5,10 @@ use Rattle.model.specs.declared.types.Order.{Order}
 use Rattle.model.specs.Grid.{Settings}
 use Rattle.model.specs.Curve.{allows}
 use Rattle.model.specs.Rank.{ranked}
-use Rattle.book.specs.declared.standing.StandingOrder.{StandingOrder}
 use Rattle.book.specs.Plain.{plain}
 use Rattle.book.specs.Meaning.{max_capacity}
 use Rattle.walking.specs.Walks.{actives}
+use Rattle.striking.specs.declared.parties.Party.{Party}
 
 -- those of some orders of side s that allow p
 abbrev pub willing : Side → ℕ → List Order → List Order
@@ -31,7 +31,7 @@ pub record Leads (g : Settings) (s : Side) (p : ℕ) (os : List Order) (from k :
   pub onward : actives g (drop from (ranked s os)) ≡ o ∷ actives g (drop (k + 1) (ranked s os))
   pub first : parties g s p from os ≡ o ∷ parties g s p (k + 1) os
 
--- the first party, with its place, or none where no party is left
-abbrev pub First : Settings → Side → ℕ → List Order → ℕ → Option (ℕ × StandingOrder) → Type 0
+-- the first party, or none where no party is left
+abbrev pub First : Settings → Side → ℕ → List Order → ℕ → Option Party → Type 0
 First g s p os from None = parties g s p from os ≡ []
-First g s p os from (Some f) = Leads g s p os from f.0 (plain f.1)
+First g s p os from (Some f) = Leads g s p os from f.place (plain f.order)

@@ -6,24 +6,26 @@ use grid::Settings;
 use model::Side;
 use walking::first_active;
 
-// The first order of a side in rank, at or after a place, that may trade at the price, with its place, counted from 0.
+// An order that may trade, with its place in rank, counted from 0.
+#[derive(Clone, Copy)]
+pub(crate) struct Party {
+    pub(crate) place: usize,
+    pub(crate) order: StandingOrder,
+}
+
+// The first order of a side in rank, at or after a place, that may trade at the price.
 pub(crate) fn first_party<B: Book>(
     book: &B,
     settings: &Settings,
     side: Side,
     price: u32,
     from: usize,
-) -> Option<(usize, StandingOrder)>
+) -> Option<Party>
     ensures { First (plain settings.now) side price (B.orders book.now) from result }
 {
-    match first_active(book, settings, side, from) {
-        Some(found) => {
-            if found.1.price.allows(side, price) {
-                Some(found)
-            } else {
-                None
-            }
-        }
-        None => None,
-    }
+    let (place, order) = first_active(book, settings, side, from)?;
+    order
+        .price
+        .allows(side, price)
+        .then_some(Party { place, order })
 }

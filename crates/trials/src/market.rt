@@ -1,48 +1,38 @@
 use crate::showing::shown_day;
-use arrival::ArrivalBook;
+use choices::{Rule, Table};
+use grid::Terms;
 use model::{Call, Condition, Entry, Order, OrderPrice, Side};
-use pricing::{LeastSurplus, Middle, Nearest};
-use ranked::RankedBook;
 use std::alloc::Global;
 use std::process::Abort;
 use std::test::Fail;
 
-#[derive(Clone, Copy)]
-pub(crate) enum Table {
-    Arrival,
-    Ranked,
-}
+// A tick of 1, an indicative price of 100, an absolute band of 20 and a static band of 10 percent. The programs have terms of their own.
+pub(crate) const TERMS: Terms = Terms {
+    tick: 1,
+    indicative: 100,
+    absolute: 20,
+    static_band: 10,
+    last_number: 0,
+};
 
-#[derive(Clone, Copy)]
-pub(crate) enum Rule {
-    Nearest,
-    Middle,
-}
-
-// The numbers that a session is made of, and the lengths of what it is lent.
+// What a session is made of, and the lengths of what it is lent.
 #[derive(Clone, Copy)]
 pub(crate) struct Market {
     pub(crate) table: Table,
     pub(crate) rule: Rule,
-    pub(crate) tick: u32,
-    pub(crate) indicative: u32,
-    pub(crate) absolute: u32,
-    pub(crate) last: u64,
+    pub(crate) terms: Terms,
     pub(crate) rows: usize,
     pub(crate) answers: usize,
     pub(crate) tape: usize,
     pub(crate) scratch: usize,
 }
 
-// A market with a tick of 1, an indicative price of 100 and an absolute band of 20 percent, with room for all.
+// A market with room for all.
 pub(crate) fn roomy(table: Table, rule: Rule) -> Market {
     Market {
         table,
         rule,
-        tick: 1,
-        indicative: 100,
-        absolute: 20,
-        last: 0,
+        terms: TERMS,
         rows: 8,
         answers: 16,
         tape: 32,
@@ -50,6 +40,14 @@ pub(crate) fn roomy(table: Table, rule: Rule) -> Market {
     }
 }
 
+impl Market {
+    // The same market on other terms.
+    pub(crate) fn on(self, terms: Terms) -> Market {
+        Market { terms, ..self }
+    }
+}
+
+// Orders of one member, at any price. `day` has three members and takes numbers: a crate for both would be more than they are.
 pub(crate) fn buy(price: OrderPrice, quantity: u64) -> Call {
     order(Side::Buy, price, quantity, Condition::Plain)
 }
@@ -81,6 +79,7 @@ pub(crate) fn expect(
     calls: &[Call],
     outcome: &'static str,
 ) -> Result<(), Fail> {
+    // contents of its own, to see that what a book does not use makes no difference
     let blank = Order {
         number: 9,
         member: 9,
@@ -89,37 +88,8 @@ pub(crate) fn expect(
         left: 9,
     };
     let mut rows = vec![in heap; blank; market.rows]?;
-    let balanced = LeastSurplus { below: Middle };
-    let shown = match (market.table, market.rule) {
-        (Table::Arrival, Rule::Nearest) => shown_day(
-            heap,
-            market,
-            ArrivalBook::new(&mut rows),
-            Nearest,
-            calls,
-        )?,
-        (Table::Arrival, Rule::Middle) => shown_day(
-            heap,
-            market,
-            ArrivalBook::new(&mut rows),
-            balanced,
-            calls,
-        )?,
-        (Table::Ranked, Rule::Nearest) => shown_day(
-            heap,
-            market,
-            RankedBook::new(&mut rows),
-            Nearest,
-            calls,
-        )?,
-        (Table::Ranked, Rule::Middle) => shown_day(
-            heap,
-            market,
-            RankedBook::new(&mut rows),
-            balanced,
-            calls,
-        )?,
-    };
+    let book = market.table.empty(&mut rows);
+    let shown = shown_day(heap, market, book, calls)?;
     assert!(rt; shown.as_str() == outcome, "{}", outcome);
     Ok(())
 }

@@ -1,4 +1,6 @@
-use crate::market::{Market, Rule, Table, at, buy, expect, order, roomy, sell};
+use crate::market::{Market, TERMS, at, buy, expect, order, roomy, sell};
+use choices::{Rule, Table};
+use grid::Terms;
 use model::{Call, Condition, OrderPrice, Side};
 use std::alloc::Global;
 use std::process::Abort;
@@ -107,11 +109,11 @@ pub(crate) fn other_auctions(rt: &impl Abort, heap: Global, table: Table) -> Res
 
 // Active at the ends of the grid and not beyond: outcome 7, each price with an order of the other side at market.
 pub(crate) fn grid_ends(rt: &impl Abort, heap: Global, table: Table) -> Result<(), Fail> {
-    let market = Market {
+    let market = roomy(table, Rule::Nearest).on(Terms {
         indicative: 95,
         absolute: 10,
-        ..roomy(table, Rule::Nearest)
-    };
+        ..TERMS
+    });
     expect(
         rt,
         heap,
@@ -211,25 +213,25 @@ pub(crate) fn trading_and_making(rt: &impl Abort, heap: Global, table: Table) ->
         &[random, auction, one, buy(at(100), 8)],
         "0 0 1 !10 | | at 100, 1 stand",
     )?;
-    let fives = Market { tick: 5, ..market };
-    expect(rt, heap, fives, &[], "| | at 100, 0 stand")?;
+    let fives = Terms { tick: 5, ..TERMS };
+    expect(rt, heap, market.on(fives), &[], "| | at 100, 0 stand")?;
     expect(
         rt,
         heap,
-        Market {
+        market.on(Terms {
             indicative: 0,
             ..fives
-        },
+        }),
         &[],
         "!2",
     )?;
     expect(
         rt,
         heap,
-        Market {
+        market.on(Terms {
             indicative: 102,
             ..fives
-        },
+        }),
         &[],
         "!2",
     )

@@ -1,4 +1,6 @@
-use crate::market::{Market, Rule, Table, at, buy, expect, order, roomy, sell};
+use crate::market::{Market, TERMS, at, buy, expect, order, roomy, sell};
+use choices::{Rule, Table};
+use grid::Terms;
 use model::{Call, Condition, Entry, OrderPrice, Side};
 use std::alloc::Global;
 use std::process::Abort;
@@ -7,17 +9,13 @@ use std::test::Fail;
 // The refusals that a list or its making can meet, but for 3 and 13.
 pub(crate) fn refused_calls(rt: &impl Abort, heap: Global, table: Table) -> Result<(), Fail> {
     let market = roomy(table, Rule::Nearest);
-    expect(rt, heap, Market { tick: 0, ..market }, &[], "!1")?;
-    expect(
-        rt,
-        heap,
-        Market {
-            last: 1_000_000_000,
-            ..market
-        },
-        &[],
-        "!1",
-    )?;
+    let no_tick = Terms { tick: 0, ..TERMS };
+    expect(rt, heap, market.on(no_tick), &[], "!1")?;
+    let beyond = Terms {
+        last_number: 1_000_000_000,
+        ..TERMS
+    };
+    expect(rt, heap, market.on(beyond), &[], "!1")?;
     let stranger = Call::Enter(Entry {
         member: 1000,
         side: Side::Buy,
@@ -44,14 +42,14 @@ pub(crate) fn refused_calls(rt: &impl Abort, heap: Global, table: Table) -> Resu
         &calls,
         "!4 !5 !6 !7 !8 !12 | | at 100, 0 stand",
     )?;
-    let spent = Market {
-        last: 999_999_999,
-        ..market
+    let spent = Terms {
+        last_number: 999_999_999,
+        ..TERMS
     };
     expect(
         rt,
         heap,
-        spent,
+        market.on(spent),
         &[buy(at(100), 1)],
         "!9 | | at 100, 0 stand",
     )?;

@@ -1,11 +1,11 @@
 use crate::market::Market;
 use book::Book;
 use desk::trade_day;
-use model::{Answer, Call, Point, Reason, TapeRecord};
-use pricing::PriceRule;
+use model::{Answer, Call, Point, Reason, Refusal, TapeRecord};
 use std::alloc::Global;
 use std::test::Fail;
 
+// Contents that no day writes, and not the blank ones: a place that is shown and was not written would be seen.
 const NO_ANSWER: Answer = Answer {
     refusal: 99,
     answer: 99,
@@ -24,11 +24,10 @@ const NO_RECORD: TapeRecord = TapeRecord::Withdrawal {
 };
 
 // A day in a line: its answers, refused ones with a mark, its records, and its reference price and how many orders stand; or its refusal.
-pub(crate) fn shown_day<B: Book + Drop, R: PriceRule + Drop>(
+pub(crate) fn shown_day<B: Book + Drop>(
     heap: Global,
     market: Market,
     book: B,
-    rule: R,
     calls: &[Call],
 ) -> Result<String, Fail> {
     let mut answers = vec![in heap; NO_ANSWER; market.answers]?;
@@ -36,13 +35,9 @@ pub(crate) fn shown_day<B: Book + Drop, R: PriceRule + Drop>(
     let mut scratch = vec![in heap; NO_POINT; market.scratch]?;
     let mut line = String::new(heap);
     match trade_day(
-        market.tick,
-        market.indicative,
-        market.absolute,
-        10,
-        market.last,
+        market.terms,
         book,
-        rule,
+        market.rule,
         calls,
         &mut answers,
         &mut tape,
@@ -56,7 +51,7 @@ pub(crate) fn shown_day<B: Book + Drop, R: PriceRule + Drop>(
             write!(line, " at {reference}, {standing} stand")?;
         }
         Err(why) => {
-            let number = why.code();
+            let number = u8::from(why);
             write!(line, "!{number}")?;
         }
     }
@@ -65,12 +60,12 @@ pub(crate) fn shown_day<B: Book + Drop, R: PriceRule + Drop>(
 
 fn show_answers(line: &mut String, answers: &[Answer], count: usize) -> Result<(), Fail> {
     for answer in answers.iter().take(count) {
-        let refusal = answer.refusal;
-        let value = answer.answer;
-        if refusal == 0 {
-            write!(line, "{value} ")?;
-        } else {
-            write!(line, "!{refusal} ")?;
+        match Result::<u64, Refusal>::try_from(*answer)? {
+            Ok(value) => write!(line, "{value} ")?,
+            Err(why) => {
+                let number = u8::from(why);
+                write!(line, "!{number} ")?;
+            }
         }
     }
     Ok(())
@@ -98,7 +93,7 @@ fn show_record(line: &mut String, record: TapeRecord) -> Result<(), Fail> {
             quantity,
             reason,
         } => {
-            let code = reason.code();
+            let code = u8::from(reason);
             write!(line, " {number}-{quantity}({code})")?;
         }
     }

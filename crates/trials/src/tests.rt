@@ -1,9 +1,9 @@
-use crate::market::Table;
 use crate::outcomes::{
     called_prices, grid_ends, interruptions, other_auctions, trading_and_making,
 };
 use crate::refusals::{refused_calls, short_slices};
 use crate::sessions::{foreign_prices, occupied_books};
+use choices::Table;
 use std::test::Fail;
 
 #[test]
@@ -19,5 +19,6 @@ fn both_tables_give_the_known_outcomes(rt: HostRuntime) -> Result<(), Fail> {
         short_slices(&rt, heap, table)?;
     }
     occupied_books(&rt);
-    foreign_prices(&rt)
+    foreign_prices(&rt);
+    Ok(())
 }

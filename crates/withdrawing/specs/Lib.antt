@@ -1,1 +1,1 @@
-pub mod Chosen
+pub mod Markets

@@ -2,7 +2,7 @@ ghost use Rattle.std.specs.Prelude.{◌≡◌, length, filter};
 ghost use Rattle.model.specs.Rank.{ranked};
 ghost use Rattle.model.specs.Calls.{is_market_order};
 ghost use Rattle.book.specs.Plain.{as_plain};
-ghost use Rattle.withdrawing.specs.Chosen.{market_found};
+ghost use Rattle.withdrawing.specs.Markets.{market_found};
 
 use book::{Book, StandingOrder};
 use model::Side;
@@ -20,19 +20,19 @@ pub fn count_markets<B: Book>(book: &B) -> usize
 fn markets_on<B: Book>(book: &B, side: Side) -> usize
     ensures { result ≡ length (filter is_market_order (ranked side (B.orders book.now))) }
 {
-    let mut n = 0;
-    'walk: while is_market_order(book.nth(side, n + 1)) {
-        n += 1;
+    let (count, _) = book.count();
+    // a range, and no chain: the book has no slice to go over, and the number reached is the answer
+    for n in 0..count {
+        if !is_market_order(book.nth(side, n + 1)) {
+            return n;
+        }
     }
-    n
+    count
 }
 
 // Whether there is an order, and it is a market order.
 fn is_market_order(order: Option<StandingOrder>) -> bool
     ensures { result ≡ market_found (as_plain order) }
 {
-    match order {
-        Some(o) => o.price.is_market(),
-        None => false,
-    }
+    order.is_some_and(|order| order.price.is_market())
 }

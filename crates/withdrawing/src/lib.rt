@@ -1,8 +1,8 @@
 // Withdrawals by number over any book, each with its tape record.
 #![tactic(auto)]
 
+mod choices;
 mod counting;
-mod which;
 mod withdrawals;
 
 pub use counting::count_markets;

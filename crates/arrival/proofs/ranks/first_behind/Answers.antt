@@ -1,10 +1,11 @@
-use Rattle.std.proofs.Common.{arith}
-use Rattle.arrival.proofs.InRank.{scan_none, scan_more}
+use Rattle.std.proofs.Common.{◌≡◌, filter, rules, ◌∙◌}
+use Rattle.std.specs.List.{reduce}
+use Rattle.model.specs.Numbers.{max_number}
+use Rattle.model.proofs.Standing.{standing_distinct}
+use Rattle.arrival.proofs.InRank.{counts, earlier, scan_best}
 use Rattle.arrival.proofs.ranks.first_behind.Goals as goal
 
-pub loop-i-init : goal.loop-i-init
-loop-i-init c = scan_none c.args.side c.args.from c.args.orders.now
-
-pub loop-i-preserved : goal.loop-i-preserved
-loop-i-preserved c =
-    scan_more c.args.side c.args.from c.loop-i.best c.best_with-best.result c.args.orders.now c.loop-i.i (omega arith) (omega arith) c.loop-i.invariant c.best_with-best.ensures
+pub returns : goal.returns
+returns c =
+    let best : c.reduce.result ≡ reduce (earlier c.args.side) (filter (counts c.args.side c.args.from) c.args.orders.now) = search rules in
+    best ∙ scan_best c.args.side c.args.from c.args.orders.now (standing_distinct 0 max_number c.args.orders.now c.requires)

@@ -3,8 +3,8 @@ use Rattle.grid.specs.Views.{plain}
 use Rattle.curve.proofs.Counting.{Going}
 use Rattle.curve.proofs.reaching.reach.Given as goal
 
-abbrev pub invariant-walk : goal.invariant-walk
-invariant-walk g l = Going (plain l.settings) l.side (g.B.Book.orders l.book) l.price l.initial.mark l.mark
+abbrev pub invariant-loop-place : goal.invariant-loop-place
+invariant-loop-place g l = Going (plain l.settings) l.side (g.B.Book.orders l.book) l.price l.initial.mark l.mark
 
-abbrev pub decreases-walk : goal.decreases-walk
-decreases-walk g l = length (g.B.Book.orders l.book) - l.mark.place
+abbrev pub decreases-loop-place : goal.decreases-loop-place
+decreases-loop-place g l = length (g.B.Book.orders l.book) - l.mark.place

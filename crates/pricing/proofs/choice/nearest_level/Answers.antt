@@ -1,27 +1,15 @@
-use Rattle.std.proofs.Common.{◌∙◌}
-use Rattle.pricing.proofs.Ends.{blank}
-use Rattle.pricing.proofs.Level.{nearest_joined, nearest_turn, nearest_skip, nearest_last}
+use Rattle.std.proofs.Common.{not, Some, rules, tests}
+use Rattle.std.proofs.lemmas.Iterator.{YieldsList-from_slice}
+use Rattle.std.proofs.lemmas.Iterator.Consumers.{YieldsList-from_filter, fold_from_yields_List}
+use Rattle.pricing.specs.Level.{nearest_with}
+use Rattle.pricing.proofs.Level.{nearest_joined}
 use Rattle.pricing.proofs.choice.nearest_level.Goals as goal
-use Rattle.pricing.proofs.choice.nearest_level.Goals.{then-not-goes_ahead, else-not-goes_ahead}
 
-pub loop-p-preserved : goal.loop-p-preserved
-loop-p-preserved g c =
+pub returns-clause-joined : goal.returns-clause-joined
+returns-clause-joined g c =
     let r = g.R.PriceRule.rule c.args.rule.now in
     let b = c.args.best in
     let t = c.args.target in
     let ps = c.args.points.now in
-    let i = c.loop-p.p-index in
-    elim c.if-not-goes_ahead.branch [
-      | then-not-goes_ahead w ↦ rw w.nearest-is (nearest_turn r b t c.loop-p.nearest ps i blank c.loop-p-test.true w.nearest_with.result w.if-not-goes_ahead.ensures w.nearest_with.ensures ∙ c.loop-p.invariant)
-      | else-not-goes_ahead w ↦ rw w.nearest-is (nearest_skip r b t c.loop-p.nearest ps i blank c.loop-p-test.true w.if-not-goes_ahead.ensures ∙ c.loop-p.invariant)
-    ]
-
-pub returns : goal.returns
-returns g c =
-    let r = g.R.PriceRule.rule c.args.rule.now in
-    let b = c.args.best in
-    let t = c.args.target in
-    let ps = c.args.points.now in
-    let o = c.loop-p.nearest in
-    let value = nearest_last r b t o ps c.loop-p.p-index c.loop-p-test.false ∙ c.loop-p.invariant in
-    record { value = value; joined = λ xs. nearest_joined r b t o c.args.earlier xs ps value }
+    let value = fold_from_yields_List _ (λ e p. Some (nearest_with t e p)) c.args.earlier c.fold.result c.fold.ensures.ran (YieldsList-from_filter _ (λ p. not (r.ahead b p)) (YieldsList-from_slice ps (cc)) c.filter.ensures.closure (λ x r q k. search (rules, tests))) (λ a x b q k. search rules) in
+    λ xs. nearest_joined r b t c.fold.result c.args.earlier xs ps value

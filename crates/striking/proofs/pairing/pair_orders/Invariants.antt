@@ -4,11 +4,11 @@ use Rattle.grid.specs.Views.{plain}
 use Rattle.striking.proofs.Going.{Going}
 use Rattle.striking.proofs.pairing.pair_orders.Given as goal
 
-abbrev pub invariant-pairing : goal.invariant-pairing
-invariant-pairing g l =
+abbrev pub invariant-loop-met : goal.invariant-loop-met
+invariant-loop-met g l =
     let start = g.B.Book.orders l.initial.book in
-    Going (plain l.settings) l.price (trades_at (plain l.settings) l.price l.volume start) start (g.B.Book.orders l.book) l.initial.tape l.tape l.at l.next l.remaining l.last
+    Going (plain l.settings) l.price (trades_at (plain l.settings) l.price l.volume start) start (g.B.Book.orders l.book) l.initial.tape l.tape l.remaining l.last
     × (g.B.Book.capacity l.book ≡ g.B.Book.capacity l.initial.book)
 
-abbrev pub decreases-pairing : goal.decreases-pairing
-decreases-pairing g l = l.remaining
+abbrev pub decreases-loop-met : goal.decreases-loop-met
+decreases-loop-met g l = l.remaining

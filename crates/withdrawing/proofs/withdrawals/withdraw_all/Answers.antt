@@ -1,18 +1,15 @@
-use Rattle.std.proofs.Common.{length, ap, arith}
+use Rattle.std.proofs.Common.{◌≤◌, map, length, sym, ◌∙◌, subst}
 use Rattle.model.specs.declared.types.Reason.TheVariants.{AtClose}
 use Rattle.model.specs.Orders.{withdrawal}
-use Rattle.withdrawing.proofs.Walk.{all_chosen, all_withdrawn}
+use Rattle.tape.specs.Tapes.{room, Recorded}
+use Rattle.withdrawing.proofs.Walk.{all_chosen, none_left}
 use Rattle.withdrawing.proofs.withdrawals.withdraw_all.Goals as goal
 
 pub withdraw_chosen-requires : goal.withdraw_chosen-requires
-withdraw_chosen-requires g c = omega (arith, c.requires, ap length (all_chosen (g.B.Book.orders c.args.book.now)))
+withdraw_chosen-requires g c = subst (λ l. length l ≤ room c.args.tape.now) (sym (all_chosen (g.B.Book.orders c.args.book.now))) c.requires
 
-pub returns : goal.returns
-returns g c =
-    let w =
-    all_withdrawn (withdrawal AtClose) c.args.at c.withdraw_chosen.result (g.B.Book.orders c.args.book.now) (g.B.Book.orders c.withdraw_chosen.new.book) c.args.tape.now c.withdraw_chosen.new.tape
-    c.withdraw_chosen.ensures.answer
-    c.withdraw_chosen.ensures.after
-    c.withdraw_chosen.ensures.records
-    in
-    record { answer = w.0; after = w.1; room = c.withdraw_chosen.ensures.room; records = w.2 }
+pub returns-clause-after : goal.returns-clause-after
+returns-clause-after g c = c.withdraw_chosen.ensures.after ∙ none_left (g.B.Book.orders c.args.book.now)
+
+pub returns-clause-records : goal.returns-clause-records
+returns-clause-records g c = subst (λ l. Recorded c.args.tape.now c.withdraw_chosen.new.tape (map (withdrawal AtClose) l)) (all_chosen (g.B.Book.orders c.args.book.now)) c.withdraw_chosen.ensures.records

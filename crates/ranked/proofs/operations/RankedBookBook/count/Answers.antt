@@ -3,4 +3,4 @@ use Rattle.ranked.proofs.Replies.{count_meaning}
 use Rattle.ranked.proofs.operations.RankedBookBook.count.Goals as goal
 
 pub returns : goal.returns
-returns c = (c.count.ensures ∙ sym (count_meaning c.args.self.now.sides c.args.self.now.fits), c.capacity.ensures)
+returns c = (c.count.ensures ∙ sym (count_meaning c.args.self.now.sides), c.capacity.ensures)

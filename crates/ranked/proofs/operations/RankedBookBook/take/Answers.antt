@@ -1,4 +1,4 @@
-use Rattle.std.proofs.Common.{◌≡◌, ◌+◌, ◌-◌, true, Some, sym, refl, ap, ◌∙◌, subst, arith}
+use Rattle.std.proofs.Common.{◌≡◌, ◌+◌, ◌-◌, true, Some, sym, refl, ap, ◌∙◌, subst}
 use Rattle.model.specs.Orders.{find, lower, with_left}
 use Rattle.book.specs.Meaning.{all_below, can_take}
 use Rattle.ranked.specs.InRank.{meaning}
@@ -15,7 +15,7 @@ use Rattle.ranked.proofs.operations.RankedBookBook.take.Goals.{at-returns-in_def
 here : (c : goal.After-at-order) → Stands c.args.self.now.sides c.args.number c.in-Some.at c.at-order.result
 here c =
     let b = c.args.self.now in
-    stands b.sides c.args.number c.in-Some.at c.at-order.result b.fits (rank_in b) c.in-Some.ensures c.at-order.ensures
+    stands b.sides c.args.number c.in-Some.at c.at-order.result (rank_in b) c.in-Some.ensures c.at-order.ensures
 
 under : (c : goal.After-at-order) → find c.args.number (meaning c.args.self.now.sides) ≡ Some c.at-order.result
 under c = found c.args.self.now.sides c.args.number c.in-Some.at c.at-order.result (here c)
@@ -47,8 +47,6 @@ pub invariant_of-self : goal.invariant_of-self
 invariant_of-self c =
     let top = c.args.self.now.top in
     record {
-      fits = omega (arith, c.remove.ensures.free);
-      small = omega (arith, c.remove.ensures.room, c.args.self.now.small);
       in_rank = ∣ (gone c).1 ∣₁;
       below = subst (λ os. all_below os (top + 1) ≡ true) (sym (gone c).0) (below_lower (top + 1) c.args.number c.args.amount (meaning c.args.self.now.sides) c.args.self.now.below);
     }
@@ -72,8 +70,6 @@ pub invariant_of-self-2 : goal.invariant_of-self-2
 invariant_of-self-2 c =
     let top = c.args.self.now.top in
     record {
-      fits = c.replace.ensures.fits;
-      small = omega (arith, c.replace.ensures.room, c.args.self.now.small);
       in_rank = ∣ (less c).1 ∣₁;
       below = subst (λ os. all_below os (top + 1) ≡ true) (sym (less c).0) (below_lower (top + 1) c.args.number c.args.amount (meaning c.args.self.now.sides) c.args.self.now.below);
     }

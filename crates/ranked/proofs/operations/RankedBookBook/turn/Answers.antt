@@ -1,4 +1,4 @@
-use Rattle.std.proofs.Common.{◌≡◌, ◌+◌, true, Some, sym, refl, ap, ◌∙◌, subst, arith}
+use Rattle.std.proofs.Common.{◌≡◌, ◌+◌, true, Some, sym, refl, ap, ◌∙◌, subst}
 use Rattle.std.proofs.lemmas.Bool.{and_parts}
 use Rattle.model.specs.declared.types.OrderPrice.TheVariants.{Limit}
 use Rattle.model.specs.Numbers.{max_price, in_range}
@@ -18,7 +18,7 @@ use Rattle.ranked.proofs.operations.RankedBookBook.turn.Goals.{at-returns-in_def
 here : (c : goal.After-at-order) → Stands c.args.self.now.sides c.args.number c.in-Some.at c.at-order.result
 here c =
     let b = c.args.self.now in
-    stands b.sides c.args.number c.in-Some.at c.at-order.result b.fits (rank_in b) c.in-Some.ensures c.at-order.ensures
+    stands b.sides c.args.number c.in-Some.at c.at-order.result (rank_in b) c.in-Some.ensures c.at-order.ensures
 
 under : (c : goal.After-at-order) → find c.args.number (meaning c.args.self.now.sides) ≡ Some c.at-order.result
 under c = found c.args.self.now.sides c.args.number c.in-Some.at c.at-order.result (here c)
@@ -52,8 +52,6 @@ pub invariant_of-self : goal.invariant_of-self
 invariant_of-self c =
     let top = c.args.self.now.top in
     record {
-      fits = c.enter.ensures.fits;
-      small = omega (arith, c.enter.ensures.room, c.remove.ensures.room, c.args.self.now.small);
       in_rank = ∣ (again c).1 ∣₁;
       below = subst (λ os. all_below os (top + 1) ≡ true) (sym (again c).0) (below_turn (top + 1) c.args.number c.args.price (meaning c.args.self.now.sides) c.args.self.now.below);
     }

@@ -9,5 +9,5 @@ pub returns : goal.returns
 unfolding queue
 returns c =
     let h = c.args.self.now in
-    let s = c.args.side in
-    c.read_row.ensures ∙ sym (get_or-take (count_of s h) (view s h.rows.now) c.args.i blank c.requires.within)
+    let p = c.args.at in
+    c.read_row.ensures ∙ sym (get_or-take (count_of p.side h) (view p.side h.rows.now) p.index blank c.requires)

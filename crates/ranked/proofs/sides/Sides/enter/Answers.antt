@@ -1,18 +1,16 @@
-use Rattle.std.proofs.Common.{arith}
+use Rattle.std.proofs.Common.{not, arith}
+use Rattle.std.proofs.lemmas.List.Sums.{prefix_len-le-length}
+use Rattle.model.specs.Rank.{before}
 use Rattle.ranked.specs.Queues.{queue}
 use Rattle.ranked.proofs.Changes.{length_queue}
-use Rattle.ranked.proofs.Scans.{rank_within, entered}
+use Rattle.ranked.proofs.Scans.{entered}
 use Rattle.ranked.proofs.sides.Sides.enter.Goals as goal
 
-pub insert-requires : goal.insert-requires
-insert-requires c =
+pub insert-requires-clause-within : goal.insert-requires-clause-within
+insert-requires-clause-within c =
+    let s = c.args.order.side in
     let h = c.args.self.now in
-    let s = c.args.side in
-    record { free = c.requires; within = omega (arith, c.rank_of-i.ensures, rank_within s c.args.order (queue s h), length_queue s h (omega (arith, c.requires))) }
+    omega (arith, c.rank_of-index.ensures, prefix_len-le-length (λ x. not (before s c.args.order x)) (queue s h), length_queue s h)
 
-pub returns : goal.returns
-returns c = record {
-  fits = c.insert.ensures.fits;
-  after = entered c.args.side c.args.self.now c.insert.new.self c.rank_of-i.result c.args.order c.rank_of-i.ensures c.insert.ensures.after;
-  room = c.insert.ensures.room;
-}
+pub returns-clause-after : goal.returns-clause-after
+returns-clause-after c = entered c.args.order.side c.args.self.now c.insert.new.self c.rank_of-index.result c.args.order c.rank_of-index.ensures c.insert.ensures.after

@@ -1,4 +1,4 @@
-use Rattle.std.proofs.Common.{[], ap, arith}
+use Rattle.std.proofs.Common.{[], ap}
 use Rattle.book.specs.Meaning.{all_below}
 use Rattle.ranked.proofs.Holding.{Becomes}
 use Rattle.ranked.proofs.Outcomes.{empty}
@@ -10,8 +10,6 @@ nothing c = empty c.new.result c.new.ensures.buys c.new.ensures.sells
 
 pub invariant_of-result : goal.invariant_of-result
 invariant_of-result c = record {
-  fits = omega (arith, c.new.ensures.buys, c.new.ensures.sells);
-  small = omega (arith, c.new.ensures.room);
   in_rank = ∣ (nothing c).1 ∣₁;
   below = ap (λ os. all_below os 1) (nothing c).0;
 }

@@ -1,16 +1,12 @@
-use Rattle.std.proofs.Common.{length, sym, subst}
-use Rattle.session.specs.Views.{state, Sound}
-use Rattle.session.proofs.Keeping.{call_sound}
+use Rattle.grid.proofs.Bounds.{valid}
+use Rattle.model.specs.Lawful.{Lawful}
+use Rattle.session.proofs.Fine.{fine_of, came_fine, call_fine}
 use Rattle.session.proofs.session.Session.call.Goals as goal
 
-pub returns-in-Random : goal.returns-in-Random
-returns-in-Random g c =
-    let s = state g.B.Book.orders g.B.Book.capacity c.args.self.now in
-    let found = c.call_found.ensures in
-    record {
-      came = found.came;
-      scratch = found.scratch;
-      token = found.token;
-      sound = λ h. subst Sound (sym found.came.state) (call_sound (g.R.PriceRule.rule c.args.self.now.rule.below) s (length c.args.tape.now) (length c.args.scratch.now) h);
-      rule = found.rule;
-    }
+pub invariant_of-self : goal.invariant_of-self
+invariant_of-self g c =
+    let now = c.args.self.now in
+    let rule = now.rule.below in
+    let law : Lawful (g.R.PriceRule.rule rule) = record { asymmetric = g.met.R.PriceRule.asymmetric rule; transitive = g.met.R.PriceRule.transitive rule } in
+    let f = came_fine c.call.ensures.came (call_fine _ law _ (valid now.settings) _ _ (fine_of now)) in
+    record { called = f.called; reference = f.reference; sound = f.sound }
