@@ -5,7 +5,8 @@
     python3 tools/places.py --list     every place, a line each
     python3 tools/places.py --at COMMIT    the same of an earlier commit
 
-It goes by text, so what it names is a place to look at, and not yet a fault.
+It goes by text, so what it names is a place to look at, and not yet a fault. Its patterns are of the forms
+that stood at the beginning: what stands in another form since, it does not see.
 """
 import difflib
 import itertools
@@ -25,6 +26,20 @@ POINTS = {
     7: "switches",
     8: "answers in proofs/",
 }
+
+
+# What a pattern finds, by point. The patterns are of the forms that stood at the beginning.
+RULES = (
+    (1, "number for a kind or a refusal", r"\b(refusal|reason|kind|phase|side|condition|market|table|rule|code|number): u(?:8|32)\b|\b(refusal|reason|kind|phase|side): u64\b|^const (?:DONE|NO_MEMORY)\b|-> (?:Result<)?u8\b"),
+    (1, "option of a refusal", r"Option<Refusal>"),
+    (1, "0 or a count that says none", r"//.*(?:\b0 where\b|or how many|or the count|0 once)|_ => \"unknown\"|^\s+_ => 0,|None => 0,"),
+    (1, "option or result taken apart by hand", r"else \{\s*return None;\s*\}|None => (?:None|return None|false|true)\b|^\s+None => [ab],|let \(why, _, _\) = |Err\(\(?why[^=]*=> return Err|Err\(why\) => Err\(why\)|if let Some\(why\) = [^{]*\{\s*return Err\(why\)"),
+    (3, "loop", r"^[^/\n]*?(\bwhile\b[^{\n]*|\bloop \{|\bfor \w+ in [^\n{]*\.\.[^\n{]*)"),
+    (4, "words, numbers or equality by a function of its own", r"^ *(?:pub(?:\(crate\))? )?fn (?:\w+_words|code|is)\("),
+    (4, "conversion by a function of its own", r"^ *(?:pub(?:\(crate\))? )?fn (?:raw_\w+|as_\w+|(?:call|answer|answers|record|point|entry|reason|row|standing|tape|scratch|calls|token)_of|shown)\("),
+    (4, "blank value by a constant of its own", r"^const NO_(?!MEMORY)\w+"),
+    (4, "fields compared one by one", r"(\w+(?:\.\w+)*)\.(\w+) == (\w+)\.\2 && \1\.(\w+) == \3\.\4|called\.price == price && called\.quantity == quantity"),
+)
 
 
 def functions(text):
@@ -90,28 +105,12 @@ def places(root):
             carries = [bool(re.match(r"\s{4}\w+ ?[({]", v)) for v in variants]
             if len(variants) == 2 and any(carries):
                 add(1, "enum of the shape of an option or a result", where(m.start()), m[2])
-            if m[1] != "pub " and not any(carries):
+            if m[1] != "pub ":
                 add(7, "enum that only this crate switches on", where(m.start()), m[2])
-            if m[1] != "pub " and any(carries):
-                add(7, "enum that only this crate switches on", where(m.start()), m[2])
-        for rule, pattern in (
-            ("number for a kind or a refusal", r"\b(refusal|reason|kind|phase|side|condition|market|table|rule|code|number): u(?:8|32)\b|\b(refusal|reason|kind|phase|side): u64\b|^const (?:DONE|NO_MEMORY)\b|-> (?:Result<)?u8\b"),
-            ("option of a refusal", r"Option<Refusal>"),
-            ("0 or a count that says none", r"//.*(?:\b0 where\b|or how many|or the count|0 once)|_ => \"unknown\"|^\s+_ => 0,|None => 0,"),
-            ("option or result taken apart by hand", r"else \{\s*return None;\s*\}|None => (?:None|return None|false|true)\b|^\s+None => [ab],|let \(why, _, _\) = |Err\(\(?why[^=]*=> return Err|Err\(why\) => Err\(why\)|if let Some\(why\) = [^{]*\{\s*return Err\(why\)"),
-        ):
+        for point, rule, pattern in RULES:
             for m in re.finditer(pattern, text, re.M):
-                add(1, rule, where(m.start()), m[0].strip().split("\n")[0])
-        for m in re.finditer(r"^[^/\n]*?(\bwhile\b[^{\n]*|\bloop \{|\bfor \w+ in [^\n{]*\.\.[^\n{]*)", text, re.M):
-            add(3, "loop", where(m.start(1)), m[1].strip())
-        for rule, pattern in (
-            ("words, numbers or equality by a function of its own", r"^ *(?:pub(?:\(crate\))? )?fn (?:\w+_words|code|is)\("),
-            ("conversion by a function of its own", r"^ *(?:pub(?:\(crate\))? )?fn (?:raw_\w+|as_\w+|(?:call|answer|answers|record|point|entry|reason|row|standing|tape|scratch|calls|token)_of|shown)\("),
-            ("blank value by a constant of its own", r"^const NO_(?!MEMORY)\w+"),
-            ("fields compared one by one", r"(\w+(?:\.\w+)*)\.(\w+) == (\w+)\.\2 && \1\.(\w+) == \3\.\4|called\.price == price && called\.quantity == quantity"),
-        ):
-            for m in re.finditer(pattern, text, re.M):
-                add(4, rule, where(m.start()), m[0].strip())
+                group = 1 if point == 3 else 0
+                add(point, rule, where(m.start(group)), m[group].strip().split("\n")[0])
         for m in re.finditer(r"^(?:pub(?:\(crate\))? )?struct (\w+)[^{;\n]*\{\n(.*?)^\}", text, re.M | re.S):
             fields = [re.sub(r"pub(\(crate\))? ", "", f.strip().rstrip(",")) for f in m[2].split("\n") if ":" in f and "ghost" not in f and "//" not in f]
             if any("&'a mut [" in f or "Vec<" in f for f in fields) and any(f.endswith("usize") for f in fields):
