@@ -104,7 +104,7 @@ impl<'a> Book for ArrivalBook<'a> {
     }
 }
 
-// The standing order of a row that may be there.
+// The standing order of a row that may be there. No conversion: of a row that is not there is none.
 fn as_standing(row: Option<Order>) -> Option<StandingOrder>
     ensures { as_plain result ≡ checked row }
 {

@@ -1,9 +1,11 @@
 ghost use Rattle.std.specs.Prelude.{◌≤◌, min, length};
 ghost use Rattle.book.specs.Meaning.{max_capacity};
 
+use book::MAX_CAPACITY;
 use model::Order;
 
 // Orders in the front of a lent slice, no more of them than may stand.
+// That the room stays is said of each change: no type can hold a fact of a front before and after.
 #[derive(Drop)]
 pub(crate) struct Front<'a> {
     // lent rows with a count, and no Vec, since a book allocates nothing
@@ -44,7 +46,7 @@ impl<'a> Front<'a> {
     pub(crate) fn capacity(&self) -> usize
         ensures { result ≡ room_in self.now }
     {
-        self.rows.len().min(4_096)
+        self.rows.len().min(MAX_CAPACITY)
     }
 
     // Where the order with a number stands.

@@ -1,8 +1,7 @@
-ghost use Rattle.std.specs.Prelude.{◌≡◌, ◌-◌, min, true, length, None, filter, nat_le};
-ghost use Rattle.model.specs.Numbers.{max_places};
+ghost use Rattle.std.specs.Prelude.{◌≡◌, true, length, None};
 ghost use Rattle.model.specs.Grid.{Settings as PlainSettings};
 ghost use Rattle.model.specs.State.{is_random};
-ghost use Rattle.model.specs.Calls.{is_market_order, call_result, scratch_after, call as call_outcome};
+ghost use Rattle.model.specs.Calls.{call_result, scratch_after, call as call_outcome};
 ghost use Rattle.model.specs.Views.{view, Came};
 ghost use Rattle.grid.specs.Views.{plain};
 ghost use Rattle.auctioning.specs.Results.{without_point, no_answer, Priced};
@@ -19,6 +18,7 @@ use withdrawing::{count_markets, withdraw_markets};
 // Calls the price that the rule finds, which then waits for its strike, and answers its point.
 // Where nothing trades at any grid price, withdraws the market orders and begins trading.
 // The scratch holds the curve after it, unless it is too short.
+// Book, settings, day, tape and scratch are parameters, here and above: what a session holds, and what its caller lends for a call.
 pub fn call<B: Book, R: PriceRule>(
     book: &mut B,
     rule: &MostTraded<R>,
@@ -66,18 +66,9 @@ fn begin_unpriced<B: Book>(
     ensures came { (g : PlainSettings) → Came (call_result (view g day.old (B.orders book.old) (B.capacity book.old)) (length tape.old) None) (no_answer result) (view g day.new (B.orders book.new) (B.capacity book.new)) tape.old day.old.used tape.new }
     ensures room { B.capacity book.new ≡ B.capacity book.old }
 {
-    if !markets_fit(book, day, tape.len()) {
-        return Err(Refusal::TapeFull);
-    }
+    day.ask_room(count_markets(book), tape.len())?;
     let mut out = Tape::new(tape, day.used);
     withdraw_markets(book, &mut out);
     begin_trading(day, day.reference, out.next);
     Ok(())
-}
-
-// Whether the tape has a free place for every market order.
-fn markets_fit<B: Book>(book: &B, day: &DayState, tape: usize) -> bool
-    ensures { result ≡ nat_le (length (filter is_market_order (B.orders book.now))) (min tape max_places - day.now.used) }
-{
-    count_markets(book) <= day.free_places(tape)
 }

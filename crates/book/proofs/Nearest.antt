@@ -1,6 +1,14 @@
 -- The nearest order above a number, found in any order of a side.
-use Rattle.std.proofs.Common.{◌≡◌, ℕ, ◌+◌, ◌<◌, true, false, cond, ltb, List, [], ◌∷◌, drop, Some, None, Option, sym, refl, ap, ◌∙◌, arith}
-use Rattle.std.specs.List.{AllByRecursion}
+use Rattle.std.proofs.Common.{◌≡◌, ℕ, ◌+◌, ◌<◌, ◌≤◌, true, false, cond, ltb, List, [], ◌∷◌, length, drop, Some, None, Option, sym, refl, ap, ◌∙◌, subst, arith}
+use Rattle.std.proofs.iter.Yields.{nat_range_steps}
+use Rattle.std.specs.declared.iter.MapWhile.{MapWhile}
+use Rattle.std.specs.declared.ops.Range.{Range}
+use Rattle.std.specs.Iterator.{Yields}
+use Rattle.std.specs.Iterator.Adapters.{map_while_steps}
+use Rattle.std.specs.List.{AllByRecursion, FoldsTo}
+use Rattle.std.specs.Option.{MatchOption}
+use Rattle.std.specs.Fn.{Called}
+use denote.Param.Members.{Mut}
 use Rattle.std.proofs.ByRecursion.{all_kept_by}
 use Rattle.std.proofs.lemmas.Bool.{cond_both, cond-true, cond-false, lt-ltb, le-ltb}
 use Rattle.std.proofs.lemmas.Bool.Decides.{nat_tests}
@@ -13,7 +21,9 @@ use Rattle.model.proofs.Lists.{cond_pair}
 use Rattle.model.proofs.Ranking.{Distinct, all_ranked}
 use Rattle.model.proofs.Standing.{standing_above, standing_distinct, kept_standing}
 use Rattle.book.specs.Meaning.{place, next_above, of_side, lower_numbered, nearer_of}
-use Rattle.book.proofs.Places.{place_some}
+use Rattle.book.specs.Plain.{plain, as_plain}
+use Rattle.book.specs.declared.standing.StandingOrder.{StandingOrder}
+use Rattle.book.proofs.Places.{place_some, place_none, past_all}
 
 -- the nearest order above n among the best so far and some more orders
 abbrev pub nearest : ℕ → Option Order → List Order → Option Order
@@ -100,13 +110,42 @@ of_both_sides : (lo hi n : ℕ) (os : List Order) → Standing lo os hi → lowe
 of_both_sides lo hi n [] h = refl
 of_both_sides lo hi n (o ∷ os) h = first_of_sides hi n o os o.side h.2 (of_both_sides o.number hi n os h.2)
 
--- what a walk over a side has at one order, and at its end
-pub nearest_here : (n i : ℕ) (b b' best : Option Order) (xs : List Order) (o : Order)
-    → nearest n b (drop i xs) ≡ best → Some o ≡ place (i + 1) xs → b' ≡ nearer_of n b o → nearest n b' (drop (i + 1) xs) ≡ best
-nearest_here n i b b' best xs o inv here next = ap (λ a. nearest n a (drop (i + 1) xs)) next ∙ ap (nearest n b) (sym (place_some xs i o here).1) ∙ inv
+-- the chain: places are asked one after another, and each order may be nearer than the best so far
+module _ {F P : Type 0} (ask : Mut F (ℕ × Unit {0}) (Option StandingOrder)) (turn : Mut P (Option StandingOrder × (StandingOrder × Unit {0})) (Option StandingOrder)) (n : ℕ) (s : Side) (os : List Order) (f : F) (p : P)
+    (asked : (i : ℕ) (r : Option StandingOrder) (f' : F) → Called ask f (i, tt) r f' → (f' ≡ f) × (as_plain r ≡ place (i + 1) (ranked s os)))
+    (turned : (b : Option StandingOrder) (x : StandingOrder) (r : Option StandingOrder) (p' : P) → Called turn p (b, (x, tt)) r p' → (p' ≡ p) × (as_plain r ≡ nearer_of n (as_plain b) (plain x))) where
+  abbrev steps : MapWhile (Range ℕ) F → Option StandingOrder → MapWhile (Range ℕ) F → Type 0
+  steps = map_while_steps nat_range_steps ask
 
-pub nearest_end : (n i : ℕ) (b best : Option Order) (xs : List Order) → nearest n b (drop i xs) ≡ best → drop i xs ≡ [] → b ≡ best
-nearest_end n i b best xs inv end = ap (nearest n b) (sym end) ∙ inv
+  module _ (m u : MapWhile (Range ℕ) F) (e : m.f ≡ f) where
+    abbrev Gave : Option ℕ → Option StandingOrder → Type 0
+    Gave o r = MatchOption o ((r ≡ None) × (u.f ≡ m.f)) (λ i. Called ask m.f (i, tt) r u.f)
+
+    ended : length os ≤ m.iter.end → (o : Option ℕ) → nat_range_steps m.iter o u.iter → Gave o None → drop m.iter.start (ranked s os) ≡ []
+    ended l None r c = past_all s os m.iter.start (omega (arith, r.1.0))
+    ended l (Some i) r c = place_none (ranked s os) m.iter.start (subst (λ k. None ≡ place (k + 1) (ranked s os)) r.1.1 (asked i None u.f (subst (λ h. Called ask h (i, tt) None u.f) e c)).1)
+
+    shown : (y : StandingOrder) (o : Option ℕ) → nat_range_steps m.iter o u.iter → Gave o (Some y)
+        → (u.f ≡ f) × (u.iter.end ≡ m.iter.end) × (u.iter.start ≡ m.iter.start + 1) × (Some (plain y) ≡ place (m.iter.start + 1) (ranked s os))
+    shown y None r c = absurd cc
+    shown y (Some i) r c =
+        let a = asked i (Some y) u.f (subst (λ h. Called ask h (i, tt) (Some y) u.f) e c) in
+        (a.0, r.0, r.1.2, subst (λ k. Some (plain y) ≡ place (k + 1) (ranked s os)) r.1.1 a.1)
+
+  pub walks : (ys : List StandingOrder) (m t u : MapWhile (Range ℕ) F) (a z : P × Option StandingOrder) → m.f ≡ f → length os ≤ m.iter.end → a.0 ≡ p → Yields steps m ys t → steps t None u
+      → FoldsTo {P = P × Option StandingOrder} (λ c x d. Called turn c.0 (c.1, (x, tt)) d.1 d.0) a ys z → nearest n (as_plain a.1) (drop m.iter.start (ranked s os)) ≡ as_plain z.1
+  walks [] m t u a z e l k y w c =
+      let d = subst (λ v. steps v None u) (sym y) w in
+      ap (nearest n (as_plain a.1)) (ended m u e l d.0 d.1 d.2) ∙ ap (λ v. as_plain v.1) c
+  walks (x ∷ ys) m t u a z e l k y w c =
+      let v = y.0 in
+      let h = shown m v e x y.1.0 y.1.1 y.1.2 in
+      let b = turned a.1 x c.0.1 c.0.0 (subst (λ q. Called turn q (a.1, (x, tt)) c.0.1 c.0.0) k c.1) in
+      let rest = walks ys v t u c.0 z h.0 (omega (arith, h.1)) b.0 y.2 w c.2 in
+      ap (nearest n (as_plain a.1)) (place_some (ranked s os) m.iter.start (plain x) h.3).1
+      ∙ ap (λ q. nearest n q (drop (m.iter.start + 1) (ranked s os))) (sym b.1)
+      ∙ ap (λ i. nearest n (as_plain c.0.1) (drop i (ranked s os))) (sym h.2)
+      ∙ rest
 
 -- the answers of both sides give the order with the next higher number
 pub after_both : (hi n : ℕ) (os : List Order) (buy sell r : Option Order) → Standing 0 os hi

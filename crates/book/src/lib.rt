@@ -7,5 +7,5 @@ mod nearer;
 mod standing;
 
 pub use making::OutOfBounds;
-pub use meaning::Book;
+pub use meaning::{Book, MAX_CAPACITY};
 pub use standing::StandingOrder;

@@ -4,7 +4,7 @@ ghost use Rattle.book.specs.Plain.{plain};
 ghost use Rattle.book.specs.Making.{Admitted};
 
 use crate::standing::StandingOrder;
-use model::{Order, OrderPrice};
+use model::{MAX_MEMBER, MAX_NUMBER, MAX_PRICE, MAX_QUANTITY, Order, OrderPrice};
 use std::error::Error;
 use std::fmt;
 
@@ -46,10 +46,10 @@ impl TryFrom<Order> for StandingOrder {
 fn in_bounds(order: Order) -> bool
     ensures { result ≡ in_bounds order }
 {
-    (1..=999_999_999).contains(&order.number)
-        && (1..=999).contains(&order.member)
+    (1..=MAX_NUMBER).contains(&order.number)
+        && (1..=MAX_MEMBER).contains(&order.member)
         && price_in_bounds(order.price)
-        && order.left <= 1_000_000_000
+        && order.left <= MAX_QUANTITY
 }
 
 // A limit price is from 1 to the highest price.
@@ -58,7 +58,7 @@ fn price_in_bounds(price: OrderPrice) -> bool
 {
     match price {
         OrderPrice::Market => true,
-        OrderPrice::Limit(limit) => (1..=99_999).contains(&limit),
+        OrderPrice::Limit(limit) => (1..=MAX_PRICE).contains(&limit),
     }
 }
 

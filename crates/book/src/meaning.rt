@@ -9,8 +9,12 @@ use crate::nearer::{lower_numbered, nearer};
 use crate::standing::StandingOrder;
 use model::Side;
 
+// The most orders that any book holds.
+pub const MAX_CAPACITY: usize = 4_096;
+
 // A book is known by what stands in it and by its capacity, which never changes. Refusals and questions leave what stands as it was.
 // That the capacity stays is said of each change: no type can hold a fact of a book before and after.
+// A change answers whether it was made, as a set's does: there is nothing more to say of one that was not.
 pub trait Book {
     // the standing orders, ascending by number
     ghost orders: { Self → List Order };
@@ -44,10 +48,11 @@ pub trait Book {
         ensures { as_plain result ≡ found number (orders self.now) };
 
     // The n-th order of a side in rank, counted from 1.
+    // Side and place are two parameters: a caller goes through the places of one side.
     fn nth(&self, side: Side, n: usize) -> Option<StandingOrder>
         ensures { as_plain result ≡ place n (ranked side (orders self.now)) };
 
-    // How many orders stand, and the capacity.
+    // How many orders stand, and the capacity: both in one, as the rules have it.
     fn count(&self) -> (usize, usize)
         ensures { (result.0 ≡ length (orders self.now)) × (result.1 ≡ capacity self.now) };
 
@@ -65,14 +70,8 @@ pub trait Book {
         ensures { as_plain result ≡ next_above number (of_side side (orders self.now)) }
     {
         let (count, _) = self.count();
-        let mut best = None;
-        // a loop, and no chain: nth tells its order without the bounds, so no list of standing orders is known to be what it gives
-        for i in 0..count {
-            match self.nth(side, i + 1) {
-                Some(o) => best = nearer(number, best, o),
-                None => return best,
-            }
-        }
-        best
+        (0..count)
+            .map_while(|i| self.nth(side, i + 1))
+            .fold(None, |best, o| nearer(number, best, o))
     }
 }

@@ -51,6 +51,7 @@ struct Bar {
 
 impl fmt::Display for Bar {
     fn fmt<W: fmt::Write>(&self, f: &mut fmt::Formatter<W>) -> fmt::Result {
+        // one mark after another: to repeat a text would allocate it
         for _ in 0..(self.quantity / 5).min(40) {
             f.write_char(self.mark)?;
         }

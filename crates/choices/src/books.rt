@@ -10,6 +10,7 @@ use ranked::RankedBook;
 
 impl Table {
     // An empty book in a lent slice, whatever it holds. Its capacity is the slice's length, or 4,096 if that is less.
+    // Each table promises this of its own type, and this of either.
     pub fn empty<'a>(self, rows: &'a mut [Order]) -> TableBook<'a>
         ensures empty { standing_in result ≡ [] }
         ensures room { capacity_of result ≡ min (length rows.old) max_capacity }

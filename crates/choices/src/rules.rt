@@ -2,17 +2,15 @@ ghost use Rattle.std.proofs.Common.{rules};
 ghost use Rattle.choices.specs.Rules.{chosen};
 
 use model::Point;
-use pricing::{BestEnds, LeastSurplus, Middle, Nearest, PriceRule};
+use pricing::{BALANCED, BestEnds, Nearest, PriceRule};
 
 // Which rule finds a price below most traded: the nearest to the indicative price, or least surplus and then the middle.
 // An arm for each in each method, as for the tables.
 #[derive(Clone, Copy, Debug, PartialEq, Eq)]
 pub enum Rule {
     Nearest,
-    Middle,
+    Balanced,
 }
-
-const BALANCED: LeastSurplus<Middle> = LeastSurplus { below: Middle };
 
 impl PriceRule for Rule {
     ghost rule = { chosen };
@@ -26,14 +24,14 @@ impl PriceRule for Rule {
     fn goes_ahead(&self, a: Point, b: Point) -> bool {
         match self {
             Rule::Nearest => Nearest.goes_ahead(a, b),
-            Rule::Middle => BALANCED.goes_ahead(a, b),
+            Rule::Balanced => BALANCED.goes_ahead(a, b),
         }
     }
 
     fn target(&self, ends: BestEnds, indicative: u32) -> u64 {
         match self {
             Rule::Nearest => Nearest.target(ends, indicative),
-            Rule::Middle => BALANCED.target(ends, indicative),
+            Rule::Balanced => BALANCED.target(ends, indicative),
         }
     }
 }

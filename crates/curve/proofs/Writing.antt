@@ -14,7 +14,7 @@ use Rattle.model.specs.Rank.{ranked}
 use Rattle.model.proofs.GridEnds.{length_prices, price_at}
 use Rattle.walking.specs.Walks.{actives}
 use Rattle.curve.specs.declared.marks.Mark.{Mark}
-use Rattle.curve.specs.Reaching.{mark_at, left_at, onward, Reached}
+use Rattle.curve.specs.Reaching.{left_at, onward, Reached}
 use Rattle.curve.specs.Runs.{place_in_turn, with_volume, SideWritten}
 use Rattle.curve.proofs.Volumes.{volume_in_rank}
 
@@ -66,9 +66,9 @@ module _ (g : Settings) (s : Side) (xs : List Order) (from : ℕ) (start : List 
   abbrev wanted : ℕ → Point → Point
   wanted k d = with_volume s (get_or start k d) (from + k * g.tick) (left_at s (from + k * g.tick) (actives g xs))
 
-  pub written_none : Written g s xs from start 0 (mark_at 0 0) start
-  written_none = record {
-    ahead = λ k l _. omega arith;
+  pub written_none : (m : Mark) → ((q : ℕ) → onward g s xs m q ≡ left_at s q (actives g xs)) → Written g s xs from start 0 m start
+  written_none m h = record {
+    ahead = λ k l _. h (from + k * g.tick);
     shown = λ k d l. sym (cond-false (is_past s (length start) 0 k) _ _ (none_first s (length start) k l));
   }
 

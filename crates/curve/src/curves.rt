@@ -1,8 +1,9 @@
-ghost use Rattle.std.specs.Prelude.{◌≡◌, ◌+◌, ◌*◌, ◌≤◌, ◌++◌, length, drop, if◌then◌else◌, Some, None, nat_lt};
-ghost use Rattle.model.specs.Grid.{lowest, count};
+ghost use Rattle.std.specs.Prelude.{◌≡◌, ◌++◌, length, drop, if◌then◌else◌, Some, None, nat_lt};
+ghost use Rattle.model.specs.Grid.{count};
 ghost use Rattle.model.specs.Curve.{curve};
 ghost use Rattle.grid.specs.Views.{plain};
 
+use crate::prices::Run;
 use crate::runs::write_run;
 use book::Book;
 use grid::Settings;
@@ -14,18 +15,10 @@ pub fn write_curve<B: Book>(book: &B, settings: &Settings, scratch: &mut [Point]
     ensures value { result ≡ (if nat_lt (length scratch.old) (count (plain settings.now)) then None else Some (count (plain settings.now))) }
     ensures written { scratch.new ≡ (if nat_lt (length scratch.old) (count (plain settings.now)) then scratch.old else curve (plain settings.now) (B.orders book.now) ++ drop (count (plain settings.now)) scratch.old) }
 {
-    let (lowest, places) = whole_grid(settings);
-    if scratch.len() < places {
+    let grid = Run::grid(settings);
+    if scratch.len() < grid.count {
         return None;
     }
-    write_run(book, settings, lowest, &mut scratch[0..places]);
-    Some(places)
-}
-
-// The grid as one run: its lowest price, and how many prices it has.
-fn whole_grid(settings: &Settings) -> (u32, usize)
-    ensures value { result ≡ (lowest (plain settings.now), count (plain settings.now)) }
-    ensures small { result.0 + result.1 * settings.now.tick ≤ 200000 }
-{
-    (settings.lowest(), settings.count())
+    write_run(book, settings, grid.from, &mut scratch[..grid.count]);
+    Some(grid.count)
 }

@@ -4,6 +4,7 @@
 mod curves;
 mod marks;
 mod points;
+mod prices;
 mod reaching;
 mod runs;
 

@@ -1,6 +1,8 @@
-// How far a walk over the orders of a side in rank has come, and what is left of those that it counted.
+use walking::Placed;
+
+// How far a count over the active orders of a side in rank has come: the one that is next, and what is left of those before it.
 #[derive(Clone, Copy)]
 pub(crate) struct Mark {
-    pub(crate) place: usize,
+    pub(crate) next: Option<Placed>,
     pub(crate) total: u64,
 }

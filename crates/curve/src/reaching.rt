@@ -16,25 +16,20 @@ pub(crate) fn reach<B: Book>(
     price: u32,
     start: Mark,
 ) -> Mark
-    requires { Counted (B.orders book.now) start }
-    ensures counted { Counted (B.orders book.now) result }
+    requires { Counted (plain settings.now) side (B.orders book.now) start }
+    ensures counted { Counted (plain settings.now) side (B.orders book.now) result }
     ensures reached { Reached (plain settings.now) side (ranked side (B.orders book.now)) price start result }
 {
     let mut mark = start;
-    // a walk, and no iterator: two loops would not pay for a type with its laws
-    while let Some((place, order)) = first_active(book, settings, side, mark.place) {
-        if !order.price.allows(side, price) {
-            return Mark { place, ..mark };
+    // a walk, and no chain: the order that it stops at is part of the answer
+    while let Some(next) = mark.next {
+        if !next.order.price.allows(side, price) {
+            return mark;
         }
         mark = Mark {
-            place: place + 1,
-            total: mark.total + order.left,
+            next: first_active(book, settings, side, next.place + 1),
+            total: mark.total + next.order.left,
         };
     }
-    // past the inactive orders at the end, so that no later count walks over them again
-    let (count, _) = book.count();
-    Mark {
-        place: count,
-        ..mark
-    }
+    mark
 }

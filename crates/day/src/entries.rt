@@ -1,6 +1,6 @@
 use model::{Call, Condition, Entry, OrderPrice, Side};
 
-// An order as a call of a list.
+// An order as a call of a list. The test has words of its own, for one member.
 pub(crate) fn order(
     member: u32,
     side: Side,

@@ -1,9 +1,10 @@
-use crate::page::{Page, TERMS};
+use crate::page::{PRICES, Page, TAPE};
 use book::Book;
 use desk::{DayEnd, trade_day};
 use grid::Terms;
 use model::{Answer, Call, Point, Refusal, TapeRecord};
 use pricing::PriceRule;
+use samples::TERMS;
 use std::alloc::{AllocError, Global};
 
 // A day that was run as one list: what it came to, its answers, its tape and its curve.
@@ -24,8 +25,8 @@ pub(crate) fn run_list<B: Book + Drop, R: PriceRule + Drop>(
     calls: &[Call],
 ) -> Result<Listed, AllocError> {
     let mut answers = vec![in heap; Answer::BLANK; calls.len()]?;
-    let mut tape = vec![in heap; TapeRecord::BLANK; 64]?;
-    let mut scratch = vec![in heap; Point::BLANK; 41]?;
+    let mut tape = vec![in heap; TapeRecord::BLANK; TAPE]?;
+    let mut scratch = vec![in heap; Point::BLANK; PRICES]?;
     let end = trade_day(
         terms,
         book,

@@ -15,16 +15,16 @@ use crate::days::show_day;
 use crate::openings::show_openings;
 use crate::page::Page;
 use choices::Table;
-use pricing::{LeastSurplus, Middle, Nearest};
+use pricing::{BALANCED, Nearest};
+use samples::{BY_BALANCED, BY_NEAREST};
 use std::alloc::Global;
 
 // Everything that is printed, as it comes out on one of the tables.
 fn whole_page(heap: Global, table: Table) -> anyhow::Result<String> {
     let mut page = Page::new(heap, table);
-    let balanced = LeastSurplus { below: Middle };
     show_openings(&mut page)?;
-    show_day(&mut page, "nearest to the indicative price", Nearest)?;
-    show_day(&mut page, "least surplus, then the middle", balanced)?;
+    show_day(&mut page, BY_NEAREST, Nearest)?;
+    show_day(&mut page, BY_BALANCED, BALANCED)?;
     Ok(page.text)
 }
 

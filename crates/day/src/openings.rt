@@ -1,11 +1,11 @@
-use crate::entries::{buy, market, sell};
 use crate::lists::{Listed, run_list};
-use crate::page::{Page, TERMS};
+use crate::page::Page;
 use crate::words::Words;
 use chart::Chart;
 use grid::Terms;
-use model::{Call, Order, Side};
-use pricing::{LeastSurplus, Middle, Nearest, PriceRule};
+use model::{Call, Entry, Order};
+use pricing::{BALANCED, Nearest, PriceRule};
+use samples::{BOOKS, BY_BALANCED, BY_NEAREST, Sample, TERMS};
 use std::alloc::AllocError;
 
 // The opening prices of some small books under both rules.
@@ -15,29 +15,7 @@ pub(crate) fn show_openings(page: &mut Page) -> Result<(), AllocError> {
         "Opening prices: tick 1, indicative price 100, prices from 80 to 120. # trades and - is left over, a mark for every 5."
     )?;
     writeln!(page.text)?;
-    let even = [buy(7, 106, 50), sell(8, 98, 50)];
-    let odd = [buy(7, 103, 50), sell(8, 98, 50)];
-    let bid = [buy(7, 105, 80), sell(8, 98, 50)];
-    let offered = [buy(7, 105, 50), sell(8, 98, 80)];
-    let markets = [market(7, Side::Buy, 30), market(8, Side::Sell, 20)];
-    let inactive = [buy(7, 121, 10), sell(8, 90, 10)];
-    let several = [
-        buy(7, 102, 10),
-        market(7, Side::Buy, 10),
-        buy(7, 103, 10),
-        sell(8, 100, 25),
-    ];
-    let books: [(&str, &[Call]); 8] = [
-        ("As much bid as offered", &even),
-        ("As much bid as offered, an odd middle", &odd),
-        ("More bid than offered", &bid),
-        ("More offered than bid", &offered),
-        ("Market orders only", &markets),
-        ("A buy above the grid, which is inactive", &inactive),
-        ("Several buys for one sell", &several),
-        ("No orders", &[]),
-    ];
-    for (title, orders) in books {
+    for Sample { title, orders } in BOOKS {
         show_opening(page, title, TERMS, orders)?;
     }
     let unlisted = Terms {
@@ -53,20 +31,25 @@ pub(crate) fn show_openings(page: &mut Page) -> Result<(), AllocError> {
 }
 
 // Some orders, their curve, and what an auction of them comes to under both rules.
+// A page of its own beside that of `opening`, which counts without a book.
 fn show_opening(
     page: &mut Page,
     title: &str,
     terms: Terms,
-    orders: &[Call],
+    orders: &[Entry],
 ) -> Result<(), AllocError> {
     writeln!(page.text, "{title}")?;
     for order in orders {
         writeln!(page.text, "  {}", Words(*order))?;
     }
-    let mut calls = orders.to_vec(page.heap)?;
-    calls.extend_from_slice(&[Call::BeginRandom, Call::Auction])?;
+    let calls: Vec<Call> = orders
+        .iter()
+        .copied()
+        .map(Call::Enter)
+        .chain([Call::BeginRandom, Call::Auction])
+        .collect(page.heap)?;
     let nearest = open(page, terms, Nearest, &calls)?;
-    let balanced = open(page, terms, LeastSurplus { below: Middle }, &calls)?;
+    let balanced = open(page, terms, BALANCED, &calls)?;
     if nearest.end.is_ok() {
         write!(
             page.text,
@@ -77,8 +60,8 @@ fn show_opening(
             }
         )?;
     }
-    show_price(page, "nearest to the indicative price", &nearest)?;
-    show_price(page, "least surplus, then the middle", &balanced)?;
+    show_price(page, BY_NEAREST, &nearest)?;
+    show_price(page, BY_BALANCED, &balanced)?;
     writeln!(page.text)
 }
 
@@ -94,13 +77,14 @@ fn open<R: PriceRule + Drop>(
 
 // What the auction traded, the last call of its list, and the reference price after it.
 fn show_price(page: &mut Page, rule: &str, listed: &Listed) -> Result<(), AllocError> {
-    let traded = listed.answers.last().map_or(0, |answer| answer.answer);
-    match listed.end {
-        Ok(end) if traded > 0 => {
+    let last = listed.answers.last();
+    let traded = last.map(|answer| answer.answer).filter(|n| *n > 0);
+    match (listed.end, traded) {
+        (Ok(end), Some(quantity)) => {
             let price = end.reference;
-            writeln!(page.text, "  {rule:<32} {traded} at {price}")
+            writeln!(page.text, "  {rule:<32} {quantity} at {price}")
         }
-        Ok(_) => writeln!(page.text, "  {rule:<32} no price"),
-        Err(why) => page.show_refusal(why),
+        (Ok(_), None) => writeln!(page.text, "  {rule:<32} no price"),
+        (Err(why), _) => page.show_refusal(why),
     }
 }

@@ -1,16 +1,12 @@
+use crate::words::Words;
 use choices::Table;
-use grid::Terms;
 use model::Refusal;
 use std::alloc::{AllocError, Global};
 
-// A tick of 1, an indicative price of 100, an absolute band of 20 and a static band of 10 percent.
-pub(crate) const TERMS: Terms = Terms {
-    tick: 1,
-    indicative: 100,
-    absolute: 20,
-    static_band: 10,
-    last_number: 0,
-};
+// How many places the tape of a day has, and its scratch: one for each price.
+pub(crate) const TAPE: usize = 64;
+
+pub(crate) const PRICES: usize = 41;
 
 // The page as it is written, the table that its books are kept in, and where memory comes from.
 #[derive(Drop)]
@@ -29,9 +25,8 @@ impl Page {
         }
     }
 
-    // A refusal in a line.
+    // A refusal in a line. `opening` shows the number alone, so each program has a line of its own.
     pub(crate) fn show_refusal(&mut self, refusal: Refusal) -> Result<(), AllocError> {
-        let number = u8::from(refusal);
-        writeln!(self.text, "  refused: {refusal} ({number})")
+        writeln!(self.text, "  {}", Words(refusal))
     }
 }

@@ -74,11 +74,8 @@ fn show_call(
             writeln!(page.text, "  {place:>4}  {text:<42}{done}")?;
         }
         Err(why) => {
-            let number = u8::from(why);
-            writeln!(
-                page.text,
-                "  {place:>4}  {text:<42}refused: {why} ({number})"
-            )?;
+            let refused = Words(why);
+            writeln!(page.text, "  {place:>4}  {text:<42}{refused}")?;
         }
     }
     Ok(())

@@ -1,4 +1,4 @@
-use model::{Call, Condition, Entry, OrderPrice, Side, TapeRecord};
+use model::{Call, Condition, Entry, OrderPrice, Refusal, Side, TapeRecord};
 use std::fmt;
 
 // A value in the words of the page.
@@ -54,6 +54,14 @@ impl fmt::Display for Words<Call> {
             Call::Auction => f.write_str("auction"),
             Call::Close => f.write_str("close"),
         }
+    }
+}
+
+impl fmt::Display for Words<Refusal> {
+    fn fmt<W: fmt::Write>(&self, f: &mut fmt::Formatter<W>) -> fmt::Result {
+        let why = self.0;
+        let number = u8::from(why);
+        write!(f, "refused: {why} ({number})")
     }
 }
 

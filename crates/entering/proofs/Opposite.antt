@@ -1,5 +1,5 @@
 -- What an order meets: how many fills at most, and the bounds of their prices.
-use Rattle.std.proofs.Common.{◌≡◌, ℕ, ◌+◌, ◌-◌, ◌*◌, ◌≤◌, min, Bool, true, not, ◌||◌, eqb, leb, List, [], ◌∷◌, length, filter, arith}
+use Rattle.std.proofs.Common.{◌≡◌, ℕ, ◌+◌, ◌-◌, ◌*◌, ◌≤◌, min, Bool, true, not, ◌||◌, eqb, leb, List, [], ◌∷◌, length, filter, Some, None, Option, IfSome, arith}
 use native.Mathlib.Nat.{one-le-mul}
 use Rattle.std.specs.List.{AllByRecursion}
 use Rattle.std.proofs.ByRecursion.{all_kept_by, All-weaker}
@@ -11,10 +11,11 @@ use Rattle.model.specs.declared.types.Side.{Side}
 use Rattle.model.specs.Numbers.{max_price}
 use Rattle.model.specs.Grid.{Settings, within, active}
 use Rattle.model.specs.Curve.{allows}
-use Rattle.model.specs.Trading.{limit, Met, meet, active_in_rank, last_price}
+use Rattle.model.specs.Trading.{limit, Met, meet, active_in_rank}
 use Rattle.model.proofs.Ranking.{of_side, all_ranked}
 use Rattle.book.specs.Bounds.{Bounded, price_in_bounds}
 use Rattle.model.proofs.Lengths.{length_ranked, length_kept_le}
+use Rattle.meeting.specs.Plans.{last_price_or}
 
 pub length_active : (g : Settings) (s : Side) (os : List Order) → length (active_in_rank g s os) ≤ length os
 length_active g s os =
@@ -32,6 +33,10 @@ band_low w c p h k e =
     let some : 1 ≤ c * (100 - w) = one-le-mul k (omega arith) in
     omega (arith, leb-true (c * (100 - w)) (100 * p) (and_parts (leb (c * (100 - w)) (100 * p)) (leb (100 * p) (c * (100 + w))) e).0)
 
+-- the price of the last fill, if there is one, is in bounds
+abbrev pub FillInBounds : Option ℕ → Type 0
+FillInBounds a = IfSome a (λ x. price_in_bounds (Limit x) ≡ true)
+
 module _ (in_band : ℕ → Bool) (s : Side) (p : OrderPrice) where
   pub length_fills : (q : ℕ) (xs : List Order) → length (meet in_band s p q xs).fills ≤ length xs
   length_fills q [] = omega arith
@@ -40,21 +45,19 @@ module _ (in_band : ℕ → Bool) (s : Side) (p : OrderPrice) where
       let i = length_fills (q - min q o.left) os in
       cond_both (eqb q 0 || not (allows s p (limit o.price))) _ _ P (λ _. omega arith) (λ _. cond_both (in_band (limit o.price)) _ _ P (λ _. omega arith) (λ _. omega arith))
 
-  last_in_bounds : ((x : ℕ) → in_band x ≡ true → 1 ≤ x) → (q : ℕ) (xs : List Order) → AllByRecursion (λ o. limit o.price ≤ max_price) xs → (a : OrderPrice) → price_in_bounds a ≡ true
-      → price_in_bounds (last_price a (meet in_band s p q xs).fills) ≡ true
+  last_in_bounds : ((x : ℕ) → in_band x ≡ true → 1 ≤ x) → (q : ℕ) (xs : List Order) → AllByRecursion (λ o. limit o.price ≤ max_price) xs → (a : Option ℕ) → FillInBounds a → FillInBounds (last_price_or a (meet in_band s p q xs).fills)
   last_in_bounds low q [] h a k = k
   last_in_bounds low q (o ∷ os) h a k =
       let x : ℕ = limit o.price in
-      let P : Met → Type 0 = λ m. price_in_bounds (last_price a m.fills) ≡ true in
+      let P : Met → Type 0 = λ m. FillInBounds (last_price_or a m.fills) in
       cond_both (eqb q 0 || not (allows s p x)) _ _ P
       (λ _. k)
       (λ _. cond_both (in_band x) _ _ P
-      (λ b. last_in_bounds low (q - min q o.left) os h.1 (Limit x) (and_from (leb 1 x) (leb x max_price) (le-leb 1 x (low x b)) (le-leb x max_price h.0)))
+      (λ b. last_in_bounds low (q - min q o.left) os h.1 (Some x) (and_from (leb 1 x) (leb x max_price) (le-leb 1 x (low x b)) (le-leb x max_price h.0)))
       (λ _. k))
 
--- the price of the last fill, or the order's own
-pub last_price_in_bounds : (g : Settings) (reference : ℕ) (s other : Side) (p : OrderPrice) (q : ℕ) (os : List Order) → g.static ≤ 99 → 1 ≤ reference → AllByRecursion Bounded os → price_in_bounds p ≡ true
-    → price_in_bounds (last_price p (meet (within g.static reference) s p q (active_in_rank g other os)).fills) ≡ true
-last_price_in_bounds g reference s other p q os w r h k =
+pub last_price_in_bounds : (g : Settings) (reference : ℕ) (s other : Side) (p : OrderPrice) (q : ℕ) (os : List Order) → g.static ≤ 99 → 1 ≤ reference → AllByRecursion Bounded os
+    → FillInBounds (last_price_or None (meet (within g.static reference) s p q (active_in_rank g other os)).fills)
+last_price_in_bounds g reference s other p q os w r h =
     last_in_bounds (within g.static reference) s p (λ x b. band_low g.static reference x w r b) q (active_in_rank g other os)
-    (all_active (λ o. limit o.price ≤ max_price) g other os (All-weaker Bounded (λ o. limit o.price ≤ max_price) (λ o b. b.price_high) os h)) p k
+    (all_active (λ o. limit o.price ≤ max_price) g other os (All-weaker Bounded (λ o. limit o.price ≤ max_price) (λ o b. b.price_high) os h)) None tt

@@ -1,7 +1,7 @@
 -- The course of an order says what becomes of it.
-use Rattle.std.proofs.Common.{◌≡◌, ℕ, zero, suc, ◌+◌, ◌≤◌, Bool, true, false, cond, not, ◌&&◌, eqb, ltb, List, [], ◌∷◌, ◌++◌, map, length, sym, refl, ap, ◌∙◌, subst, append-nil, arith}
+use Rattle.std.proofs.Common.{◌≡◌, ℕ, zero, suc, ◌+◌, ◌≤◌, Bool, true, false, cond, eqb, ltb, List, [], ◌∷◌, ◌++◌, map, length, sym, refl, ap, ◌∙◌, subst, append-nil, Some, None, Option, arith}
 use Rattle.std.specs.List.{AllByRecursion}
-use Rattle.std.proofs.lemmas.Bool.{cond_both, cond-true, cond-false, and_from, and_left, and_right, eq-eqb, ne_eqb, eqb-false, lt-ltb, not_from_true, not_from_false}
+use Rattle.std.proofs.lemmas.Bool.{cond_both, cond-true, cond-false, ne_eqb, eqb-false, lt-ltb}
 use Rattle.model.specs.declared.types.Order.{Order}
 use Rattle.model.specs.declared.types.OrderPrice.{OrderPrice}
 use Rattle.model.specs.declared.types.OrderPrice.TheVariants.{Market, Limit}
@@ -9,6 +9,7 @@ use Rattle.model.specs.declared.types.Condition.{Condition}
 use Rattle.model.specs.declared.types.Condition.TheVariants.{Plain, FillOrKill, ImmediateOrCancel}
 use Rattle.model.specs.declared.types.Entry.{Entry}
 use Rattle.model.specs.declared.types.Phase.{Phase}
+use Rattle.model.specs.declared.types.Phase.TheVariants.{Trading}
 use Rattle.model.specs.declared.types.TapeRecord.{TapeRecord}
 use Rattle.model.specs.Grid.{within, active}
 use Rattle.model.specs.Rank.{opposite}
@@ -20,39 +21,46 @@ use Rattle.model.proofs.Fills.{meet_whole}
 use Rattle.book.specs.Bounds.{Bounded, price_in_bounds}
 use Rattle.book.specs.Meaning.{max_capacity}
 use Rattle.meeting.specs.declared.plans.Plan.{Plan}
-use Rattle.meeting.specs.Plans.{Planned}
+use Rattle.meeting.specs.Plans.{last_price_or, Planned}
 use Rattle.entering.specs.declared.courses.Fate.{Fate}
 use Rattle.entering.specs.declared.courses.Fate.TheVariants.{Stands, Withdrawn, Traded}
 use Rattle.entering.specs.declared.courses.Course.{Course}
 use Rattle.entering.specs.Courses.{stands_whole, goes_whole, market_fate, remaining_fate, fate_of, filled_by, inactive_course, active_course}
 use Rattle.entering.specs.Accepted.{own_order, own_record, some_fills, outcome_of, Placeable, Runs}
-use Rattle.entering.proofs.Opposite.{length_active, length_fills, last_price_in_bounds}
+use Rattle.entering.proofs.Opposite.{length_active, length_fills, FillInBounds, last_price_in_bounds}
 
 -- a disposition as a fate
 abbrev as_fate : Disposition → Fate
 as_fate (stands p) = Stands p
 as_fate (goes r) = Withdrawn r
 
-market_same : (t : Plan) (fs : List Fill) (b : Bool) → t.fills ≡ length fs → t.interrupted ≡ b → t.last_price ≡ last_price Market fs → market_fate t ≡ as_fate (market_disposition fs b)
-market_same t [] false n i l = cond-true (eqb t.fills 0 && not t.interrupted) _ _ (and_from (eqb t.fills 0) (not t.interrupted) (eq-eqb t.fills 0 n) (not_from_false t.interrupted i))
-market_same t [] true n i l = cond-false (eqb t.fills 0 && not t.interrupted) _ _ (and_right (eqb t.fills 0) (not t.interrupted) (not_from_true t.interrupted i)) ∙ ap Stands l
-market_same t (f ∷ fs) b n i l = cond-false (eqb t.fills 0 && not t.interrupted) _ _ (and_left (eqb t.fills 0) (not t.interrupted) (ne_eqb t.fills 0 (λ z. omega arith))) ∙ ap Stands l
+stands_at_last : (x : ℕ) (fs : List Fill) (b : Bool) → market_fate (last_price_or (Some x) fs) b ≡ Stands (last_price (Limit x) fs)
+stands_at_last x [] b = refl
+stands_at_last x (f ∷ fs) b = stands_at_last f.price fs b
 
-fate_same : (c : Condition) (p : OrderPrice) (t : Plan) (m : Met) → t.fills ≡ length m.fills → t.interrupted ≡ m.interrupted → t.last_price ≡ last_price p m.fills
-    → remaining_fate c p t ≡ as_fate (disposition c p m)
-fate_same Plain Market t m n i l = market_same t m.fills m.interrupted n i l
-fate_same Plain (Limit p) t m n i l = refl
-fate_same FillOrKill p t m n i l = refl
-fate_same ImmediateOrCancel p t m n i l = refl
+market_same : (fs : List Fill) (b : Bool) → market_fate (last_price_or None fs) b ≡ as_fate (market_disposition fs b)
+market_same [] false = refl
+market_same [] true = refl
+market_same (f ∷ fs) b = stands_at_last f.price fs b
+
+fate_same : (c : Condition) (p : OrderPrice) (t : Plan) (m : Met) → t.interrupted ≡ m.interrupted → t.last_price ≡ last_price_or None m.fills → remaining_fate c p t ≡ as_fate (disposition c p m)
+fate_same Plain Market t m i l = ap (λ q. market_fate q t.interrupted) l ∙ ap (market_fate (last_price_or None m.fills)) i ∙ market_same m.fills m.interrupted
+fate_same Plain (Limit p) t m i l = refl
+fate_same FillOrKill p t m i l = refl
+fate_same ImmediateOrCancel p t m i l = refl
 
 all_fills : (n : ℕ) (fs : List Fill) → n ≡ length fs → some_fills n fs ≡ fs
 all_fills n [] h = cond_both (ltb 0 n) [] [] (λ l. l ≡ []) (λ _. refl) (λ _. refl)
 all_fills n (f ∷ fs) h = cond-true (ltb 0 n) (f ∷ fs) [] (lt-ltb 0 n (omega arith))
 
 -- something remains, at a price in bounds
-remaining_placeable : (c : Condition) (p : OrderPrice) (t : Plan) (q : ℕ) → 1 ≤ t.remaining → t.remaining ≤ q → price_in_bounds p ≡ true → price_in_bounds t.last_price ≡ true
-    → Placeable q t.remaining (remaining_fate c p t)
-remaining_placeable Plain Market t q l h a b = cond_both (eqb t.fills 0 && not t.interrupted) _ _ (Placeable q t.remaining) (λ _. tt) (λ _. (l, h, b))
+market_placeable : (p : Option ℕ) (b : Bool) (left q : ℕ) → 1 ≤ left → left ≤ q → FillInBounds p → Placeable q left (market_fate p b)
+market_placeable (Some x) b left q l h k = (l, h, k)
+market_placeable None true left q l h k = (l, h, refl)
+market_placeable None false left q l h k = tt
+
+remaining_placeable : (c : Condition) (p : OrderPrice) (t : Plan) (q : ℕ) → 1 ≤ t.remaining → t.remaining ≤ q → price_in_bounds p ≡ true → FillInBounds t.last_price → Placeable q t.remaining (remaining_fate c p t)
+remaining_placeable Plain Market t q l h a b = market_placeable t.last_price t.interrupted t.remaining q l h b
 remaining_placeable Plain (Limit p) t q l h a b = (l, h, a)
 remaining_placeable FillOrKill p t q l h a b = tt
 remaining_placeable ImmediateOrCancel p t q l h a b = tt
@@ -78,7 +86,7 @@ module _ (s : State) (e : Entry) where
       subst (λ v. settle_remaining s e ph ts os (suc q) (goes r) ≡ numbered s ph (ts ++ own_record number (suc q) (cond v Traded (Withdrawn r))) (os ++ own_order number e (suc q) (cond v Traded (Withdrawn r)))) (sym (ne_eqb (suc q) 0 (λ z. omega arith)))
       (ap (numbered s ph (ts ++ own_record number (suc q) (Withdrawn r))) (sym (append-nil os)))
 
-  module _ (w : s.settings.static ≤ 99) (bounded : AllByRecursion Bounded s.orders) (count : length s.orders ≤ max_capacity) (t : Plan) (plan : Planned s.orders e.price (meeting s e) t) where
+  module _ (w : s.settings.static ≤ 99) (bounded : AllByRecursion Bounded s.orders) (count : length s.orders ≤ max_capacity) (t : Plan) (plan : Planned s.orders (meeting s e) t) where
     abbrev came_to : List Fill → Bool → ℕ → Fate → Outcome
     came_to fs b q f = numbered s (phase_after b) (map (trade_of e.side number) fs ++ own_record number q f) (after_fills fs s.orders ++ own_order number e q f)
 
@@ -87,7 +95,7 @@ module _ (s : State) (e : Entry) where
 
     same_fate : fate_of e t ≡ cond (eqb (meeting s e).remaining 0) Traded (as_fate (disposition e.condition e.price (meeting s e)))
     same_fate =
-        ap (λ f. cond (eqb t.remaining 0) Traded f) (fate_same e.condition e.price t (meeting s e) plan.fills plan.interrupted plan.last)
+        ap (λ f. cond (eqb t.remaining 0) Traded f) (fate_same e.condition e.price t (meeting s e) plan.interrupted plan.last)
         ∙ ap (λ q. cond (eqb q 0) Traded (as_fate (disposition e.condition e.price (meeting s e)))) plan.remaining
 
     same_outcome : outcome_of s e (filled_by e t) ≡ filled s e (meeting s e)
@@ -103,10 +111,10 @@ module _ (s : State) (e : Entry) where
     filled_placeable : price_in_bounds e.price ≡ true → 1 ≤ s.reference → Placeable e.quantity t.remaining (fate_of e t)
     filled_placeable p r =
         let whole = meet_whole (within s.settings.static s.reference) e.side e.price e.quantity (active_in_rank s.settings (opposite e.side) s.orders) in
-        let last = last_price_in_bounds s.settings s.reference e.side (opposite e.side) e.price e.quantity s.orders w r bounded p in
+        let last = last_price_in_bounds s.settings s.reference e.side (opposite e.side) e.price e.quantity s.orders w r bounded in
         cond_both (eqb t.remaining 0) Traded (remaining_fate e.condition e.price t) (Placeable e.quantity t.remaining)
         (λ _. tt)
-        (λ h. remaining_placeable e.condition e.price t e.quantity (omega (arith, eqb-false t.remaining 0 h)) (omega (arith, plan.remaining)) p (subst (λ x. price_in_bounds x ≡ true) (sym plan.last) last))
+        (λ h. remaining_placeable e.condition e.price t e.quantity (omega (arith, eqb-false t.remaining 0 h)) (omega (arith, plan.remaining)) p (subst FillInBounds (sym plan.last) last))
 
     filled_runs : accepted s e ≡ filled s e (meeting s e) → Runs s e (filled_by e t)
     filled_runs h = record {
@@ -126,18 +134,18 @@ module _ (s : State) (e : Entry) where
     by_plan ImmediateOrCancel h = filled_runs h
 
     -- an active order in trading
-    pub active_runs : true ≡ is_trading s.phase → true ≡ active s.settings e.price → (r : Course) → r ≡ active_course e e.condition t → Runs s e r
+    pub active_runs : s.phase ≡ Trading → true ≡ active s.settings e.price → (r : Course) → r ≡ active_course e e.condition t → Runs s e r
     active_runs h k r er =
         subst (Runs s e) (sym er)
-        (by_plan e.condition (cond-true (is_trading s.phase) _ _ (sym h) ∙ cond-true (active s.settings e.price) _ _ (sym k)))
+        (by_plan e.condition (cond-true (is_trading s.phase) _ _ (ap is_trading h) ∙ cond-true (active s.settings e.price) _ _ (sym k)))
 
-  by_condition : (c : Condition) → accepted s e ≡ entered_inactive s e c → Runs s e (inactive_course s.phase e c)
-  by_condition Plain h = stands_runs h
-  by_condition FillOrKill h = goes_runs h
-  by_condition ImmediateOrCancel h = goes_runs h
+  by_condition : s.phase ≡ Trading → (c : Condition) → accepted s e ≡ entered_inactive s e c → Runs s e (inactive_course e c)
+  by_condition h Plain k = subst (λ ph. Runs s e (stands_whole ph e)) h (stands_runs k)
+  by_condition h FillOrKill k = goes_runs k
+  by_condition h ImmediateOrCancel k = goes_runs k
 
   -- an inactive order in trading
-  pub inactive_runs : true ≡ is_trading s.phase → false ≡ active s.settings e.price → (r : Course) → r ≡ inactive_course s.phase e e.condition → Runs s e r
+  pub inactive_runs : s.phase ≡ Trading → false ≡ active s.settings e.price → (r : Course) → r ≡ inactive_course e e.condition → Runs s e r
   inactive_runs h k r er =
       subst (Runs s e) (sym er)
-      (by_condition e.condition (cond-true (is_trading s.phase) _ _ (sym h) ∙ cond-false (active s.settings e.price) _ _ (sym k)))
+      (by_condition h e.condition (cond-true (is_trading s.phase) _ _ (ap is_trading h) ∙ cond-false (active s.settings e.price) _ _ (sym k)))

@@ -1,5 +1,5 @@
 -- What an accepted order does, from the plan of what it meets.
-use Rattle.std.specs.Prelude.{ℕ, cond, not, ◌&&◌, ◌==◌}
+use Rattle.std.specs.Prelude.{ℕ, Bool, true, false, cond, Some, None, Option, ◌==◌}
 use Rattle.model.specs.declared.types.OrderPrice.{OrderPrice}
 use Rattle.model.specs.declared.types.OrderPrice.TheVariants.{Market, Limit}
 use Rattle.model.specs.declared.types.Condition.{Condition}
@@ -38,13 +38,15 @@ stands_whole ph e = untraded e (Stands e.price) ph
 abbrev pub goes_whole : Entry → Course
 goes_whole e = untraded e (Withdrawn ConditionUnmet) Trading
 
--- what becomes of a market order that is not filled whole: with nothing opposite it is withdrawn, else it stands at its last fill's price, or as market where it has none
-abbrev pub market_fate : Plan → Fate
-market_fate t = cond (t.fills == 0 && not t.interrupted) (Withdrawn NothingOpposite) (Stands t.last_price)
+-- what becomes of a market order that is not filled whole: it stands at its last fill's price, or as market where an interruption came first; with nothing opposite it is withdrawn
+abbrev pub market_fate : Option ℕ → Bool → Fate
+market_fate (Some p) interrupted = Stands (Limit p)
+market_fate None true = Stands Market
+market_fate None false = Withdrawn NothingOpposite
 
 -- what becomes of an order that is not filled whole
 abbrev pub remaining_fate : Condition → OrderPrice → Plan → Fate
-remaining_fate Plain Market t = market_fate t
+remaining_fate Plain Market t = market_fate t.last_price t.interrupted
 remaining_fate Plain (Limit p) t = Stands (Limit p)
 remaining_fate FillOrKill p t = Withdrawn ConditionUnmet
 remaining_fate ImmediateOrCancel p t = Withdrawn ConditionUnmet
@@ -57,11 +59,11 @@ fate_of e t = cond (t.remaining == 0) Traded (remaining_fate e.condition e.price
 abbrev pub filled_by : Entry → Plan → Course
 filled_by e t = record { fills = t.fills; removed = t.removed; remaining = t.remaining; fate = fate_of e t; phase = phase_after t.interrupted }
 
--- an inactive order stands, or is withdrawn if it has a condition
-abbrev pub inactive_course : Phase → Entry → Condition → Course
-inactive_course ph e Plain = stands_whole ph e
-inactive_course ph e FillOrKill = goes_whole e
-inactive_course ph e ImmediateOrCancel = goes_whole e
+-- an inactive order in trading stands, or is withdrawn if it has a condition
+abbrev pub inactive_course : Entry → Condition → Course
+inactive_course e Plain = stands_whole Trading e
+inactive_course e FillOrKill = goes_whole e
+inactive_course e ImmediateOrCancel = goes_whole e
 
 -- an active order is filled by its plan; fill-or-kill, only if all of it is
 abbrev pub active_course : Entry → Condition → Plan → Course

@@ -1,4 +1,5 @@
-ghost use Rattle.std.specs.Prelude.{◌≡◌, ◌+◌, ◌<◌, ◌≤◌, ◌++◌, [], ◌∷◌, map, length};
+ghost use Rattle.std.specs.Prelude.{◌≡◌, ◌+◌, ◌<◌, ◌≤◌, ◌++◌, map, length};
+ghost use Rattle.model.specs.Numbers.{max_number};
 ghost use Rattle.model.specs.Trading.{after_fills, trade_of};
 ghost use Rattle.tape.specs.Tapes.{room, Recorded};
 ghost use Rattle.grid.specs.Views.{plain as plain_settings};
@@ -33,6 +34,7 @@ fn settle<B: Book>(book: &mut B, number: u64, entry: Entry, course: Course, tape
 {
     match course.fate {
         Fate::Stands(price) => {
+            // no conversion of the entry: price and quantity are what became of them
             let rest = Order {
                 number,
                 member: entry.member,
@@ -60,7 +62,7 @@ pub(crate) fn carry<B: Book>(
     course: Course,
     tape: &mut Tape,
 )
-    requires number { day.now.last < 999999999 }
+    requires number { day.now.last < max_number }
     requires fills { 0 < course.fills → course.fills ≡ length (meeting_of (plain_settings settings.now) day.now.reference entry.side entry.price entry.quantity (B.orders book.old)).fills }
     requires places { records_of course ≤ room tape.old }
     ensures orders { B.orders book.new ≡ settled_orders (B.capacity book.old) (after_fills (some_fills course.fills (meeting_of (plain_settings settings.now) day.now.reference entry.side entry.price entry.quantity (B.orders book.old)).fills) (B.orders book.old)) (day.now.last + 1) entry course.remaining course.fate }

@@ -8,6 +8,7 @@ pub(crate) enum Fate {
     Traded,
 }
 
+// The counts of a plan again, and no plan within: an order that trades nothing has none.
 // What an order does once it is accepted: how many fills it has, how many standing orders they use up,
 // what remains of it and what becomes of that, and the phase after it.
 #[derive(Clone, Copy, Debug, PartialEq, Eq)]
@@ -21,12 +22,13 @@ pub(crate) struct Course {
 
 impl Course {
     ghost use Rattle.std.specs.Prelude.{◌≡◌, ◌≤◌};
+    ghost use Rattle.book.specs.Meaning.{max_capacity};
     ghost use Rattle.entering.specs.Questions.{standing_after, records_of};
 
     // How many orders stand after a course, of so many before it.
     // Its bounds are clauses, and no ghost fields: definitions make courses of any numbers.
     pub(crate) fn standing_after(self, count: usize) -> usize
-        requires few { count ≤ 4096 }
+        requires few { count ≤ max_capacity }
         requires fewer { self.removed ≤ count }
         ensures { result ≡ standing_after count self }
     {
@@ -35,7 +37,7 @@ impl Course {
 
     // How many records a course writes.
     pub(crate) fn records(self) -> usize
-        requires few { self.fills ≤ 4096 }
+        requires few { self.fills ≤ max_capacity }
         ensures { result ≡ records_of self }
     {
         self.fills + usize::from(matches!(self.fate, Fate::Withdrawn(_)))

@@ -28,8 +28,6 @@ pub(crate) fn decide<B: Book>(
     if course.standing_after(count) > capacity {
         return Err(Refusal::CapacityReached);
     }
-    if course.records() > day.free_places(tape) {
-        return Err(Refusal::TapeFull);
-    }
+    day.ask_room(course.records(), tape)?;
     Ok(course)
 }

@@ -13,6 +13,7 @@ use model::{DayState, Entry, Refusal, TapeRecord};
 use tape::Tape;
 
 // Enters an order, and answers its number. It is refused by its first question answered no, and then nothing is altered.
+// Settings, day and tape are three parameters, here and below: the first is read, the second is written last, and the third has another owner.
 pub fn enter<B: Book>(
     book: &mut B,
     settings: &Settings,

@@ -38,12 +38,12 @@ fn untraded(entry: Entry, fate: Fate, phase: Phase) -> Course
 // What becomes of a market order that is not filled whole: it stands at its last fill's price, or as market where
 // an interruption came first; with nothing opposite it is withdrawn.
 fn market_fate(plan: Plan) -> Fate
-    ensures { result ≡ market_fate plan }
+    ensures { result ≡ market_fate plan.last_price plan.interrupted }
 {
-    if plan.fills == 0 && !plan.interrupted {
-        Fate::Withdrawn(Reason::NothingOpposite)
-    } else {
-        Fate::Stands(plan.last_price)
+    match (plan.last_price, plan.interrupted) {
+        (Some(price), _) => Fate::Stands(OrderPrice::Limit(price)),
+        (None, true) => Fate::Stands(OrderPrice::Market),
+        (None, false) => Fate::Withdrawn(Reason::NothingOpposite),
     }
 }
 
@@ -76,18 +76,17 @@ fn filled_by(entry: Entry, plan: Plan) -> Course
     }
 }
 
-// An inactive order stands, or is withdrawn if it has a condition.
-fn inactive_course(phase: Phase, entry: Entry) -> Course
-    ensures { result ≡ inactive_course phase entry entry.condition }
+// An inactive order in trading stands, or is withdrawn if it has a condition.
+fn inactive_course(entry: Entry) -> Course
+    ensures { result ≡ inactive_course entry entry.condition }
 {
-    match entry.condition {
-        Condition::Plain => untraded(entry, Fate::Stands(entry.price), phase),
-        Condition::FillOrKill | Condition::ImmediateOrCancel => untraded(
-            entry,
-            Fate::Withdrawn(Reason::ConditionUnmet),
-            Phase::Trading,
-        ),
-    }
+    let fate = match entry.condition {
+        Condition::Plain => Fate::Stands(entry.price),
+        Condition::FillOrKill | Condition::ImmediateOrCancel => {
+            Fate::Withdrawn(Reason::ConditionUnmet)
+        }
+    };
+    untraded(entry, fate, Phase::Trading)
 }
 
 // An active order is filled by its plan. Fill-or-kill is so only if all of it is.
@@ -118,7 +117,7 @@ pub(crate) fn course_of<B: Book>(
         return untraded(entry, Fate::Stands(entry.price), day.phase);
     }
     if !settings.active(entry.price) {
-        return inactive_course(day.phase, entry);
+        return inactive_course(entry);
     }
     let plan = plan(book, settings, day.reference, entry);
     active_course(entry, plan)

@@ -5,7 +5,10 @@ ghost use Rattle.grid.specs.Views.{plain};
 ghost use Rattle.entering.specs.Questions.{refusal_or, own_questions, InRange};
 
 use grid::Settings;
-use model::{Condition, DayState, Entry, OrderPrice, Phase, Refusal};
+use model::{
+    Condition, DayState, Entry, MAX_MEMBER, MAX_NUMBER, MAX_PRICE, MAX_QUANTITY, OrderPrice, Phase,
+    Refusal,
+};
 
 // Whether a price is market, or a limit in range and on the tick.
 fn price_allowed(settings: &Settings, price: OrderPrice) -> bool
@@ -14,7 +17,7 @@ fn price_allowed(settings: &Settings, price: OrderPrice) -> bool
 {
     match price {
         OrderPrice::Market => true,
-        OrderPrice::Limit(limit) => 1 <= limit && limit <= 99_999 && limit % settings.tick == 0,
+        OrderPrice::Limit(limit) => (1..=MAX_PRICE).contains(&limit) && limit % settings.tick == 0,
     }
 }
 
@@ -23,10 +26,10 @@ pub(crate) fn ask_itself(settings: &Settings, day: &DayState, entry: Entry) -> R
     ensures refusal { (rest : ℕ) → own_questions (plain settings.now) day.now entry rest ≡ refusal_or result rest }
     ensures bounds { OnOk result (InRange day.now entry) }
 {
-    if entry.member < 1 || entry.member > 999 {
+    if !(1..=MAX_MEMBER).contains(&entry.member) {
         return Err(Refusal::UnknownMember);
     }
-    if entry.quantity < 1 || entry.quantity > 1_000_000_000 {
+    if !(1..=MAX_QUANTITY).contains(&entry.quantity) {
         return Err(Refusal::Quantity);
     }
     if !price_allowed(settings, entry.price) {
@@ -35,7 +38,7 @@ pub(crate) fn ask_itself(settings: &Settings, day: &DayState, entry: Entry) -> R
     if entry.condition != Condition::Plain && day.phase != Phase::Trading {
         return Err(Refusal::ConditionOutsideTrading);
     }
-    if day.last >= 999_999_999 {
+    if day.last >= MAX_NUMBER {
         return Err(Refusal::NumbersExhausted);
     }
     Ok(())

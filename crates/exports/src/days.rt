@@ -6,7 +6,7 @@ ghost use Rattle.exports.specs.Refused.{refused};
 use crate::memory::Memory;
 use crate::raw::{RawAnswer, RawCall, RawEnd, RawOrder, RawPoint, RawRecord};
 use crate::turning::phase_number;
-use book::Book;
+use book::{Book, MAX_CAPACITY};
 use choices::{Rule, Table};
 use grid::Terms;
 use model::{Order, Refusal};
@@ -51,7 +51,7 @@ pub extern "C" fn nogdrut_day(
     let Ok(mut memory) = Memory::new(heap, calls, answers, tape, scratch) else {
         return NO_MEMORY;
     };
-    let Ok(mut rows) = Vec::from_elem(heap, Order::BLANK, capacity.min(4096)) else {
+    let Ok(mut rows) = Vec::from_elem(heap, Order::BLANK, capacity.min(MAX_CAPACITY)) else {
         return NO_MEMORY;
     };
     let book = table_of(table).empty(&mut rows);
@@ -63,7 +63,7 @@ pub extern "C" fn nogdrut_day(
     }
 }
 
-// The table and the rule of a number from C. No `TryFrom`: every number names one.
+// The table and the rule of a number from C. No `TryFrom`, since every number names one, and no `From`: neither type is of this crate.
 fn table_of(number: u32) -> Table {
     match number {
         0 => Table::Arrival,
@@ -74,10 +74,11 @@ fn table_of(number: u32) -> Table {
 fn rule_of(number: u32) -> Rule {
     match number {
         0 => Rule::Nearest,
-        _ => Rule::Middle,
+        _ => Rule::Balanced,
     }
 }
 
+// Not `desk::trade_day`, which spends the session: here its end and its orders are shown, of a refused list too.
 fn run_day<B: Book + Drop, R: PriceRule + Drop>(
     terms: Terms,
     book: B,

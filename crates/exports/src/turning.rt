@@ -37,7 +37,7 @@ impl From<RawCall> for Call {
     }
 }
 
-// A refusal's number is the lowest byte of what stands there.
+// A refusal's number is the lowest byte of what stands there, and a price below the lowest half: no number from C is refused.
 impl From<RawAnswer> for Answer {
     fn from(raw: RawAnswer) -> Answer {
         Answer {

@@ -1,5 +1,5 @@
 -- Settings are valid, and the numbers of their grid are small.
-use Rattle.std.proofs.Common.{◌≡◌, ℕ, zero, suc, ◌+◌, ◌-◌, ◌*◌, ◌/◌, ◌%◌, ◌<◌, ◌≤◌, min, refl, ap, mul-le-mul_right, mul-le-mul, div-mul-le_self, suc-mul, arith}
+use Rattle.std.proofs.Common.{◌≡◌, ℕ, zero, suc, ◌+◌, ◌-◌, ◌*◌, ◌/◌, ◌%◌, ◌<◌, ◌≤◌, min, refl, ap, mul-le-mul_right, div-mul-le_self, suc-mul, arith}
 use Rattle.std.proofs.lemmas.Nat.{div-mul-add, div-add-mod'}
 use Rattle.model.specs.Numbers.{max_price}
 use Rattle.model.specs.Grid.{Settings, divided_up, lowest, highest, count}
@@ -22,18 +22,11 @@ valid s = record {
   static_high = s.static_high;
 }
 
--- a price times a percentage below 200
-pub share_small : (i k : ℕ) → i ≤ 99999 → k ≤ 199 → i * k ≤ 19899801
-share_small i k h l = mul-le-mul h l
-
 pub highest_small : (g : Settings) → Valid g → highest g ≤ max_price
 highest_small g v = let h = within_band g (highest g) (highest_is g v).on in omega (arith, h.2)
 
 pub ends_ordered : (g : Settings) → Valid g → lowest g ≤ highest g
 ends_ordered g v = (lowest_is g v).least (highest g) (highest_is g v).on
-
-pub lowest_small : (g : Settings) → Valid g → lowest g ≤ max_price
-lowest_small g v = omega (arith, ends_ordered g v, highest_small g v)
 
 -- a place of the grid is no higher than its highest price
 pub place_small : (g : Settings) → Valid g → (j : ℕ) → j < count g → lowest g + j * g.tick ≤ max_price

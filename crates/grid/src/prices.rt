@@ -5,14 +5,16 @@ ghost use Rattle.grid.specs.Views.{plain};
 
 use crate::bands::within;
 use crate::settings::Settings;
-use model::OrderPrice;
+use model::{MAX_PRICE, OrderPrice};
 
 impl Settings {
     // Whether a price is on the grid: a multiple of the tick, at most 99,999, within the absolute band about the indicative price.
     pub fn on_grid(&self, price: u32) -> bool
         ensures { result ≡ on_grid (plain self.now) price }
     {
-        price % self.tick == 0 && price <= 99_999 && within(self.absolute, self.indicative, price)
+        price % self.tick == 0
+            && price <= MAX_PRICE
+            && within(self.absolute, self.indicative, price)
     }
 
     // Whether an order at this price may trade today: a market order always, a limit order if its price is on the grid.
@@ -94,6 +96,6 @@ impl Settings {
         ensures greatest { IsHighest (plain self.now) (down self.now.tick result) }
     {
         let top = self.indicative * (100 + self.absolute) / 100;
-        top.min(99_999)
+        top.min(MAX_PRICE)
     }
 }

@@ -2,7 +2,7 @@ ghost use Rattle.std.specs.Prelude.{◌≡◌, ◌%◌, ◌≤◌};
 
 // The settings of a session: the tick, the indicative price, the absolute and the static band in percent,
 // and the last order number given. Settings out of bounds cannot exist.
-// The fields of the terms again, and no terms within: readers name them, and each has a fact of its own.
+// The fields of the terms again, and no terms within: readers name them, and would name one step more each time.
 #[derive(Clone, Copy, Debug, PartialEq, Eq)]
 pub struct Settings {
     pub tick: u32,

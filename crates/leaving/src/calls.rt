@@ -1,8 +1,5 @@
-ghost use Rattle.std.specs.Prelude.{◌≡◌, ◌-◌, ◌≤◌, min, true, map, length, nat_le};
-ghost use Rattle.model.specs.declared.types.Reason.TheVariants.{AtClose};
-ghost use Rattle.model.specs.Numbers.{max_places};
+ghost use Rattle.std.specs.Prelude.{◌≡◌, true, length};
 ghost use Rattle.model.specs.Grid.{Settings};
-ghost use Rattle.model.specs.Orders.{withdrawal};
 ghost use Rattle.model.specs.State.{takes_withdrawals, takes_close};
 ghost use Rattle.model.specs.Calls.{stands_for, withdraw as withdrawal_of, close as close_of};
 ghost use Rattle.model.specs.Views.{view, Came};
@@ -14,6 +11,7 @@ use tape::Tape;
 use withdrawing::{withdraw_all, withdraw_one};
 
 // Withdraws all that is left of a member's order, and answers it.
+// Book, day and tape are three parameters, here and below: the first two are lent by a session, and the third by its caller.
 pub fn withdraw<B: Book>(
     book: &mut B,
     day: &mut DayState,
@@ -27,9 +25,7 @@ pub fn withdraw<B: Book>(
     if !stands_for(member, book.find(number)) {
         return Err(Refusal::UnknownOrder);
     }
-    if day.free_places(tape.len()) < 1 {
-        return Err(Refusal::TapeFull);
-    }
+    day.ask_room(1, tape.len())?;
     let mut out = Tape::new(tape, day.used);
     let quantity = withdraw_one(book, number, &mut out);
     day.used = out.next;
@@ -52,22 +48,11 @@ pub fn close<B: Book>(
     requires { takes_close day.old.phase ≡ true }
     ensures came { (g : Settings) → Came (close_of (view g day.old (B.orders book.old) (B.capacity book.old)) (length tape.old)) result (view g day.new (B.orders book.new) (B.capacity book.new)) tape.old day.old.used tape.new }
 {
-    if !all_fit(book, day, tape.len()) {
-        return Err(Refusal::TapeFull);
-    }
+    let (count, _) = book.count();
+    day.ask_room(count, tape.len())?;
     let mut out = Tape::new(tape, day.used);
     let withdrawn = withdraw_all(book, &mut out);
     day.used = out.next;
     day.phase = Phase::Closed;
     Ok(withdrawn as u64)
-}
-
-// Whether a tape has a free place for the record of every order.
-fn all_fit<B: Book>(book: &B, day: &DayState, tape: usize) -> bool
-    ensures value { result ≡ nat_le (length (map (withdrawal AtClose) (B.orders book.now))) (min tape max_places - day.now.used) }
-    ensures room { result ≡ true → length (B.orders book.now) ≤ tape - day.now.used }
-    ensures records { length (map (withdrawal AtClose) (B.orders book.now)) ≡ length (B.orders book.now) }
-{
-    let (count, _) = book.count();
-    count <= day.free_places(tape)
 }

@@ -21,8 +21,8 @@ use Rattle.model.proofs.Volumes.{find_has}
 use Rattle.tape.specs.declared.tapes.Tape.{Tape}
 use Rattle.tape.specs.Tapes.{room, Recorded}
 use Rattle.tape.proofs.Recording.{recorded_none, recorded_more, room_after}
-use Rattle.book.specs.declared.standing.StandingOrder.{StandingOrder}
 use Rattle.book.specs.Meaning.{can_take}
+use Rattle.walking.specs.declared.placed.Placed.{Placed}
 use Rattle.walking.specs.Walks.{actives}
 use Rattle.meeting.specs.Plans.{meeting_of}
 use Rattle.meeting.specs.Fills.{fill_at, fill_of}
@@ -69,8 +69,8 @@ module _ {g : Settings} {reference : ℕ} {s : Side} {p : OrderPrice} {f : Fill 
       (sym (ap (λ fs. after_fills fs os) none) ∙ h.orders, h.records tape (subst (λ fs. Recorded tape tape (map f fs)) (sym none) (recorded_none tape)))
 
   -- all is carried out where no fill is met
-  pub ends : (n : Next) → Meets g reference s p q (ranked (opposite s) os) from n → ((k : ℕ) (o : StandingOrder) → n ≡ Trade k o → ⊥) → (os ≡ after_fills (meeting_of g reference s p asked first).fills first) × Recorded start tape (map f (meeting_of g reference s p asked first).fills)
-  ends (Trade k o) e other = absurd (other k o refl)
+  pub ends : (n : Next) → Meets g reference s p q (ranked (opposite s) os) from n → ((t : Placed) → n ≡ Trade t → ⊥) → (os ≡ after_fills (meeting_of g reference s p asked first).fills first) × Recorded start tape (map f (meeting_of g reference s p asked first).fills)
+  ends (Trade t) e other = absurd (other t refl)
   ends Interruption e other = over true e
   ends Nothing e other = over false e
 

@@ -1,5 +1,5 @@
 -- A plan that takes the fills of a meeting one after another says what the meeting does.
-use Rattle.std.proofs.Common.{◌≡◌, ℕ, ◌+◌, ◌-◌, ◌≤◌, min, false, cond, not, ◌||◌, Bool, eqb, leb, List, [], ◌∷◌, length, refl, ap, drop, arith}
+use Rattle.std.proofs.Common.{◌≡◌, ℕ, ◌+◌, ◌-◌, ◌≤◌, min, false, cond, not, ◌||◌, Bool, eqb, leb, List, [], ◌∷◌, length, refl, ap, drop, None, arith}
 use Rattle.std.specs.List.{ContainsAt as Has, AllByRecursion}
 use Rattle.std.proofs.lemmas.Bool.{cond_both}
 use Rattle.model.specs.declared.types.Order.{Order}
@@ -10,7 +10,7 @@ use Rattle.model.specs.Numbers.{max_number}
 use Rattle.model.specs.Curve.{allows}
 use Rattle.model.specs.Rank.{ranked, opposite}
 use Rattle.model.specs.Orders.{Standing, lower}
-use Rattle.model.specs.Trading.{limit, Fill, Met, meet, after_fills, last_price}
+use Rattle.model.specs.Trading.{limit, Fill, Met, meet, after_fills}
 use Rattle.model.proofs.Ranking.{Distinct}
 use Rattle.model.proofs.Commuting.{has_lower, kept_ranked}
 use Rattle.model.proofs.Lengths.{length_ranked}
@@ -18,7 +18,7 @@ use Rattle.model.proofs.Standing.{lower_standing, standing_distinct}
 use Rattle.book.specs.Meaning.{max_capacity}
 use Rattle.walking.specs.Walks.{actives}
 use Rattle.meeting.specs.declared.plans.Plan.{Plan}
-use Rattle.meeting.specs.Plans.{meeting_of}
+use Rattle.meeting.specs.Plans.{meeting_of, last_price_or}
 use Rattle.meeting.specs.Meetings.{rest_of}
 use Rattle.meeting.proofs.Lowered.{actives_has, actives_distinct, length_lower}
 
@@ -51,7 +51,7 @@ pub record Going (g : Settings) (reference : ℕ) (s : Side) (p : OrderPrice) (q
   pub remaining : (rest_of g reference s p t.remaining (ranked (opposite s) os) from).remaining ≡ (meeting_of g reference s p q os).remaining
   pub interrupted : (rest_of g reference s p t.remaining (ranked (opposite s) os) from).interrupted ≡ (meeting_of g reference s p q os).interrupted
   pub not_yet : t.interrupted ≡ false
-  pub last : last_price t.last_price (rest_of g reference s p t.remaining (ranked (opposite s) os) from).fills ≡ last_price p (meeting_of g reference s p q os).fills
+  pub last : last_price_or t.last_price (rest_of g reference s p t.remaining (ranked (opposite s) os) from).fills ≡ last_price_or None (meeting_of g reference s p q os).fills
   pub removed : t.removed + used_up (rest_of g reference s p t.remaining (ranked (opposite s) os) from).fills (actives g (drop from (ranked (opposite s) os))) + length (after_fills (meeting_of g reference s p q os).fills os) ≡ length os
   pub fewer : t.removed ≤ t.fills
   pub few : t.fills ≤ from
@@ -59,7 +59,7 @@ pub record Going (g : Settings) (reference : ℕ) (s : Side) (p : OrderPrice) (q
   pub bound : length (ranked (opposite s) os) ≤ max_capacity
 
 pub begins : (g : Settings) (reference : ℕ) (s : Side) (p : OrderPrice) (q : ℕ) (os : List Order) → Standing 0 os max_number → length os ≤ max_capacity
-    → Going g reference s p q os (record { fills = 0; removed = 0; remaining = q; interrupted = false; last_price = p }) 0
+    → Going g reference s p q os (record { fills = 0; removed = 0; remaining = q; interrupted = false; last_price = None }) 0
 begins g reference s p q os st count =
     let xs : List Order = actives g (ranked (opposite s) os) in
     let m : Met = meet (within g.static reference) s p q xs in
@@ -69,7 +69,7 @@ begins g reference s p q os st count =
       remaining = ap (λ n. n.remaining) same;
       interrupted = ap (λ n. n.interrupted) same;
       not_yet = refl;
-      last = ap (λ n. last_price p n.fills) same;
+      last = ap (λ n. last_price_or None n.fills) same;
       removed = omega (arith, ap (λ n. length (after_fills n.fills os)) same, removes (within g.static reference) s p 0 max_number q xs os st (actives_has g (opposite s) os) (actives_distinct g (opposite s) os (standing_distinct 0 max_number os st)));
       fewer = omega arith;
       few = omega arith;

@@ -23,6 +23,6 @@ pub record Trades (g : Settings) (reference : ℕ) (s : Side) (p : OrderPrice) (
 
 -- it has a fill, or ends
 abbrev pub Meets : Settings → ℕ → Side → OrderPrice → ℕ → List Order → ℕ → Next → Type 0
-Meets g reference s p q xs from (Trade k o) = Trades g reference s p q xs from k (plain o)
+Meets g reference s p q xs from (Trade t) = Trades g reference s p q xs from t.place (plain t.order)
 Meets g reference s p q xs from Interruption = rest_of g reference s p q xs from ≡ met [] q true
 Meets g reference s p q xs from Nothing = rest_of g reference s p q xs from ≡ met [] q false

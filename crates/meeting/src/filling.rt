@@ -12,6 +12,7 @@ use book::{Book, StandingOrder};
 use grid::Settings;
 use model::{Entry, Side, TapeRecord};
 use tape::Tape;
+use walking::Placed;
 
 // The record of a trade of an order under its number with a standing one, at the standing order's price.
 fn trade(entry: Entry, number: u64, o: StandingOrder, quantity: u64) -> TapeRecord
@@ -45,7 +46,8 @@ pub fn carry_out<B: Book>(
 {
     let mut remaining = entry.quantity;
     let mut from = 0;
-    'fills: while let Next::Trade(place, order) = next_met(
+    // a while let, and no iterator: each fill changes the book that the walk is in
+    'fills: while let Next::Trade(Placed { place, order }) = next_met(
         book, settings, reference, entry, remaining, from,
     ) {
         let quantity = remaining.min(order.left);

@@ -3,15 +3,15 @@ ghost use Rattle.grid.specs.Views.{plain as plain_settings};
 ghost use Rattle.meeting.specs.Meetings.{Meets};
 
 use crate::limits::limit;
-use book::{Book, StandingOrder};
+use book::Book;
 use grid::{Settings, within};
 use model::Entry;
-use walking::first_active;
+use walking::{Placed, first_active};
 
 // What an order meets next: an order that it trades with and its place in rank, an interruption, or nothing more.
 #[derive(Clone, Copy, Debug, PartialEq, Eq)]
 pub(crate) enum Next {
-    Trade(usize, StandingOrder),
+    Trade(Placed),
     Interruption,
     Nothing,
 }
@@ -33,15 +33,15 @@ pub(crate) fn next_met<B: Book>(
     if remaining == 0 {
         return Next::Nothing;
     }
-    let Some((place, order)) = first_active(book, settings, entry.side.opposite(), from) else {
+    let Some(met) = first_active(book, settings, entry.side.opposite(), from) else {
         return Next::Nothing;
     };
-    let price = limit(order.price);
+    let price = limit(met.order.price);
     if !entry.price.allows(entry.side, price) {
         return Next::Nothing;
     }
     if !within(settings.static_band, reference, price) {
         return Next::Interruption;
     }
-    Next::Trade(place, order)
+    Next::Trade(met)
 }

@@ -6,23 +6,24 @@ use crate::plans::Plan;
 use book::Book;
 use grid::Settings;
 use model::Entry;
+use walking::Placed;
 
 // What an order would meet. It takes the active orders of the other side in rank.
 pub fn plan<B: Book>(book: &B, settings: &Settings, reference: u32, entry: Entry) -> Plan
-    ensures { Planned (B.orders book.now) entry.price (meeting_of (plain_settings settings.now) reference entry.side entry.price entry.quantity (B.orders book.now)) result }
+    ensures { Planned (B.orders book.now) (meeting_of (plain_settings settings.now) reference entry.side entry.price entry.quantity (B.orders book.now)) result }
 {
     let mut plan = Plan {
         fills: 0,
         removed: 0,
         remaining: entry.quantity,
         interrupted: false,
-        last_price: entry.price,
+        last_price: None,
     };
     let mut from = 0;
     // a loop, and no while let: it has two ends that differ
     'walk: loop {
         match next_met(book, settings, reference, entry, plan.remaining, from) {
-            Next::Trade(place, order) => {
+            Next::Trade(Placed { place, order }) => {
                 plan = plan.with_fill(order);
                 from = place + 1;
             }

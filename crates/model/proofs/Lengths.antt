@@ -1,6 +1,7 @@
 -- How many orders a ranking and a filter keep.
-use Rattle.std.proofs.Common.{◌≡◌, suc, ◌+◌, ◌≤◌, Bool, cond, List, [], ◌∷◌, length, filter, refl, ap, arith}
+use Rattle.std.proofs.Common.{◌≡◌, suc, ◌+◌, ◌≤◌, Bool, not, cond, List, [], ◌∷◌, length, filter, refl, ap, arith}
 use Rattle.std.proofs.lemmas.Bool.{cond_both}
+use Rattle.std.proofs.lemmas.List.Filters.{length-filter_both}
 use Rattle.model.specs.Types.{Side, Buy, Sell, Order}
 use Rattle.model.specs.Rank.{before, insert, same_side, ranked}
 use Rattle.model.proofs.Commuting.{kept_ranked}
@@ -30,5 +31,4 @@ pub kept_sides : (f : Order → Bool) (os : List Order) → length (filter f (ra
 kept_sides f os = omega (arith, length_sides (filter f os), ap length (kept_ranked f Buy os), ap length (kept_ranked f Sell os))
 
 pub length_kept_le : (f : Order → Bool) (os : List Order) → length (filter f os) ≤ length os
-length_kept_le f [] = omega arith
-length_kept_le f (o ∷ os) = let i = length_kept_le f os in cond_both (f o) _ _ (λ l. length l ≤ suc (length os)) (λ _. omega arith) (λ _. omega arith)
+length_kept_le f os = omega (arith, length-filter_both f (λ o. not (f o)) (λ _. refl) os)

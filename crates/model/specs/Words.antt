@@ -1,5 +1,6 @@
--- The words for refusals, for reasons and for phases, as bytes.
-use Rattle.std.specs.Prelude.{ℕ, List, codes}
+-- The words for refusals, for reasons, for phases and for a number that names none, as bytes.
+use Rattle.std.specs.Prelude.{ℕ, List, ◌++◌, codes, decimal}
+use Rattle.model.specs.declared.codes.UnknownNumber.{UnknownNumber}
 use Rattle.model.specs.Types.{Refusal, SettingsOutOfRange, IndicativePrice, BookNotEmpty, WrongPhase, UnknownMember, Quantity, Price, ConditionOutsideTrading, NumbersExhausted, CapacityReached, TapeFull, UnknownOrder, ForeignCalledPrice, ScratchTooShort, AnswersTooShort, Reason, ByMember, AfterAuction, ConditionUnmet, NothingOpposite, AtClose, Phase, PreOpening, Random, Called, Trading, Closed}
 
 -- the words for each refusal
@@ -35,3 +36,7 @@ phase_words Random = codes "random period"
 phase_words (Called p v) = codes "called"
 phase_words Trading = codes "trading"
 phase_words Closed = codes "closed"
+
+-- the words for a number that names no refusal, or no reason
+abbrev pub unknown_words : UnknownNumber → List ℕ
+unknown_words e = codes "no meaning for the number " ++ decimal e.0

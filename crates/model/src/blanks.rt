@@ -1,5 +1,7 @@
 use crate::types::{Answer, Order, OrderPrice, Point, Reason, Side, TapeRecord};
 
+// Constants, and no Default: a blank order or record means nothing, and a default would offer it as a value.
+
 impl Order {
     // What a row of a table may hold before an order stands there.
     pub const BLANK: Order = Order {

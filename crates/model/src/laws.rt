@@ -8,6 +8,7 @@ ghost use Rattle.model.specs.Laws.{TheSessionKeepsItsLaws};
 // keeps the market's laws; a session that is made is new; the price rules of the markets are lawful;
 // and the law of optimal auctions leaves one quantity and one price.
 // The check asks for the proof of a theorem that a contract names.
+// It answers true, so that a program can ask for what its contract says.
 pub fn laws_hold() -> bool
     ensures result { result ≡ true }
     ensures session { TheSessionKeepsItsLaws }

@@ -127,7 +127,7 @@ pub enum Call {
 }
 
 // What a call of a list gives: a refusal's number, 0 when done, and its answer, 0 when refused.
-// Numbers, and no Result: so the market has its answers written; `From` and `TryFrom` turn one into the other.
+// Numbers, and no Result: the rules have an answer of a list written as two numbers; `From` and `TryFrom` turn one into the other.
 #[derive(Clone, Copy, Debug, PartialEq, Eq)]
 pub struct Answer {
     pub refusal: u8,

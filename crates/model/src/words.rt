@@ -1,5 +1,5 @@
-ghost use Rattle.std.specs.Prelude.{Some, codes};
-ghost use Rattle.model.specs.Words.{phase_words, reason_words, refusal_words};
+ghost use Rattle.std.specs.Prelude.{Some};
+ghost use Rattle.model.specs.Words.{phase_words, reason_words, refusal_words, unknown_words};
 
 use crate::codes::UnknownNumber;
 use crate::types::{Phase, Reason, Refusal};
@@ -61,6 +61,8 @@ impl fmt::Display for Phase {
 }
 
 impl fmt::Display for UnknownNumber {
+    ghost output = { λ unknown. Some (unknown_words unknown) };
+
     fn fmt<W: fmt::Write>(&self, f: &mut fmt::Formatter<W>) -> fmt::Result {
         write!(f, "no meaning for the number {}", self.0)
     }

@@ -1,8 +1,9 @@
 use chart::Chart;
 use grid::Settings;
-use model::{Order, OrderPrice, Point, Refusal, Side};
+use model::{Entry, Order, OrderPrice, Point, Refusal, Side};
 use preview::{Fault, opening_price};
-use pricing::{LeastSurplus, Middle, MostTraded, Nearest};
+use pricing::{BALANCED, MostTraded, Nearest};
+use samples::{BY_BALANCED, BY_NEAREST};
 use std::io;
 
 // The settings, and how to read the bars of a curve.
@@ -24,23 +25,28 @@ pub(crate) fn show(
     rt: &HostRuntime,
     title: &str,
     settings: &Settings,
-    orders: &[Order],
+    entries: &[Entry],
 ) -> io::Result<()> {
     println!(rt; "{title}")?;
-    for order in orders {
+    // no conversion: its number is not the entry's
+    let orders: Vec<Order> = (1..)
+        .zip(entries)
+        .map(|(number, entry)| Order {
+            number,
+            member: entry.member,
+            side: entry.side,
+            price: entry.price,
+            left: entry.quantity,
+        })
+        .collect(rt.alloc())?;
+    for order in &orders {
         show_order(rt, *order)?;
     }
     let mut scratch = vec![in rt.alloc(); Point::BLANK; settings.count()]?;
-    let nearest = opening_price(
-        &MostTraded { below: Nearest },
-        settings,
-        orders,
-        &mut scratch,
-    );
-    let middle = MostTraded {
-        below: LeastSurplus { below: Middle },
-    };
-    let balanced = opening_price(&middle, settings, orders, &mut scratch);
+    let by_nearest = MostTraded { below: Nearest };
+    let nearest = opening_price(&by_nearest, settings, &orders, &mut scratch);
+    let by_middle = MostTraded { below: BALANCED };
+    let balanced = opening_price(&by_middle, settings, &orders, &mut scratch);
     print!(rt;
         "{}",
         Chart {
@@ -48,11 +54,12 @@ pub(crate) fn show(
             indent: 2
         }
     )?;
-    show_price(rt, "nearest to the indicative price", nearest)?;
-    show_price(rt, "least surplus, then the middle", balanced)?;
+    show_price(rt, BY_NEAREST, nearest)?;
+    show_price(rt, BY_BALANCED, balanced)?;
     println!(rt)
 }
 
+// By hand: `day` has other words for side and price.
 fn show_order(rt: &HostRuntime, order: Order) -> io::Result<()> {
     let number = order.number;
     let left = order.left;
@@ -74,11 +81,11 @@ fn show_price(rt: &HostRuntime, rule: &str, price: Result<Option<Point>, Fault>)
             println!(rt; "  {rule:<32} {quantity} at {price}")
         }
         Ok(None) => println!(rt; "  {rule:<32} no price"),
-        Err(Fault::QuantityTooLarge) => println!(rt; "  {rule:<32} quantities too large"),
-        Err(Fault::ScratchTooShort) => println!(rt; "  {rule:<32} too many prices"),
+        Err(fault) => println!(rt; "  {rule:<32} {fault}"),
     }
 }
 
+// Without the words that `day` shows beside the number, so each program has a line of its own.
 pub(crate) fn show_refusal(rt: &HostRuntime, refusal: Refusal) -> io::Result<()> {
     let number = u8::from(refusal);
     println!(rt; "  refused: {number}")

@@ -11,6 +11,7 @@ use model::{Order, Point};
 
 // Writes the point of each grid price, from the lowest up, to the front of the scratch, and answers how many.
 // A refusal leaves the scratch as it was.
+// Not the one of `curve`: these orders are in no book, so they are not ranked, and their sum may be too large.
 pub fn write_curve(
     settings: &Settings,
     orders: &[Order],

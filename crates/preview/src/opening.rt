@@ -25,5 +25,5 @@ pub fn opening_price<R: PriceRule>(
     ensures first { IfOk result (Found (R.rule rule.now.below) (plain settings.now) orders.now) }
 {
     let count = write_curve(settings, orders, scratch)?;
-    Ok(auction_price(rule, &scratch[0..count], settings.indicative))
+    Ok(auction_price(rule, &scratch[..count], settings.indicative))
 }

@@ -33,12 +33,11 @@ impl<'a> Market<'a> {
         requires { count (plain self.now.settings.now) ≤ length scratch.old }
         ensures { scratch.new ≡ curve (plain self.now.settings.now) self.now.orders.now ++ drop (count (plain self.now.settings.now)) scratch.old }
     {
-        // by index: what is written through iter_mut no proof knows afterwards
-        for place in 0..scratch.len() {
+        for (place, point) in scratch.iter_mut().enumerate() {
             let Some(price) = self.settings.price_at(place) else {
                 break;
             };
-            scratch[place] = self.point_at(price);
+            *point = self.point_at(price);
         }
     }
 

@@ -5,6 +5,8 @@ use crate::choice::BestEnds;
 use crate::rule::PriceRule;
 use model::Point;
 
+// Two rules at the bottom that differ in the target; that no point goes ahead is written in both, since a rule of the trait says what it answers.
+
 // No point goes ahead, and the target is the indicative price.
 #[derive(Clone, Copy, Debug, PartialEq, Eq)]
 pub struct Nearest;

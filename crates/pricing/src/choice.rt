@@ -1,4 +1,4 @@
-ghost use Rattle.std.specs.Prelude.{◌≡◌, List, [], ◌∷◌, ◌++◌, Some, MatchOption};
+ghost use Rattle.std.specs.Prelude.{◌≡◌, List, [], ◌++◌, Some, MatchOption};
 ghost use Rattle.model.specs.declared.Point.{Point};
 ghost use Rattle.model.specs.Rules.{nearer, called};
 ghost use Rattle.pricing.specs.Ends.{alone, widened, ends, ends_with, ends_onward};

@@ -1,11 +1,13 @@
 ghost use Rattle.model.specs.Rules.{most_traded, least_surplus};
 ghost use Rattle.std.proofs.Common.{rules};
 
+use crate::bottom::Middle;
 use crate::choice::BestEnds;
 use crate::rule::PriceRule;
 use model::Point;
 
-// Two layers, and no generic one over a criterion: its trait would need laws of its own, and each criterion a type.
+// Two layers, and no generic one over a criterion: each criterion would be a type with its definition, as long as a layer.
+// No order of pairs either: the rule below is asked only where the points are equal.
 
 // The point that trades more goes ahead; points that trade as much go to the rule below.
 #[derive(Clone, Copy, Debug, PartialEq, Eq)]
@@ -56,3 +58,6 @@ impl<R: PriceRule> PriceRule for LeastSurplus<R> {
         self.below.target(ends, indicative)
     }
 }
+
+// Least surplus, and then the middle: one of the two rules of the markets below most traded.
+pub const BALANCED: LeastSurplus<Middle> = LeastSurplus { below: Middle };

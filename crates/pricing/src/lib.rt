@@ -12,5 +12,5 @@ mod tests;
 pub use auctions::auction_price;
 pub use bottom::{Middle, Nearest};
 pub use choice::{BestEnds, best_ends, called_price, nearest_level};
-pub use layers::{LeastSurplus, MostTraded};
+pub use layers::{BALANCED, LeastSurplus, MostTraded};
 pub use rule::PriceRule;

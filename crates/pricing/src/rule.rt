@@ -12,6 +12,7 @@ pub trait PriceRule {
     ghost rule: { Self → Rule };
 
     // Whether point a goes ahead of point b.
+    // Two points and no pair: which of them goes ahead is the question.
     fn goes_ahead(&self, a: Point, b: Point) -> bool
         ensures { result ≡ (rule self.now).ahead a b };
 

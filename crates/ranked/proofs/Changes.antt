@@ -1,5 +1,5 @@
 -- What a change of the rows, seen from one end, does to the queues.
-use Rattle.std.proofs.Common.{◌≡◌, ℕ, suc, ◌+◌, ◌^◌, ◌<◌, ◌≤◌, List, [], ◌∷◌, ◌++◌, length, take, drop, set, sym, ap, ◌∙◌, arith}
+use Rattle.std.proofs.Common.{◌≡◌, ℕ, suc, ◌+◌, ◌^◌, ◌<◌, ◌≤◌, cond, List, [], ◌∷◌, ◌++◌, length, take, drop, set, sym, ap, ◌∙◌, arith}
 use lib.Seq.{take-set-lt}
 use Rattle.std.specs.List.{insert, remove}
 use Rattle.std.proofs.lemmas.List.Edits.{insert-append_left, remove-append_left, insert_end, length-insert, length-remove}
@@ -7,7 +7,7 @@ use Rattle.std.proofs.lemmas.List.{length-take-le, drop-set-lt, take_at, drop_at
 use Rattle.model.specs.declared.types.Side.{Side}
 use Rattle.model.specs.declared.types.Side.TheVariants.{Buy, Sell}
 use Rattle.model.specs.declared.types.Order.{Order}
-use Rattle.model.specs.Rank.{opposite}
+use Rattle.model.specs.Rank.{opposite, same_side}
 use Rattle.ranked.specs.Views.{view}
 use Rattle.ranked.specs.Queues.{count_of, capacity_of, queue, HasRoom, Changed}
 use Rattle.ranked.specs.declared.sides.Sides.{Sides}
@@ -57,12 +57,15 @@ other_queue s h k m b f d =
     ap (λ l. take l (view (opposite s) w)) b.others ∙ ap (take n) (other_view s w) ∙ same ∙ sym (ap (take n) (other_view s v))
 
 -- and its own queue is what is seen from its end
-changed : (s : Side) (h k : Sides) (xs : List Order) (m : ℕ) → Beside s h k → take (count_of s k) (view s k.rows.now) ≡ xs → Room s h m → drop m (view s k.rows.now) ≡ drop m (view s h.rows.now) → Changed s xs h k
+seen : (s : Side) (h k : Sides) (xs : List Order) (m : ℕ) → Beside s h k → take (count_of s k) (view s k.rows.now) ≡ xs → Room s h m → drop m (view s k.rows.now) ≡ drop m (view s h.rows.now) → (t : Side) → queue t k ≡ cond (same_side t s) xs (queue t h)
 unfolding queue
-changed Buy h k xs m b e f d Buy = e
-changed Buy h k xs m b e f d Sell = other_queue Buy h k m b f d
-changed Sell h k xs m b e f d Buy = other_queue Sell h k m b f d
-changed Sell h k xs m b e f d Sell = e
+seen Buy h k xs m b e f d Buy = e
+seen Buy h k xs m b e f d Sell = other_queue Buy h k m b f d
+seen Sell h k xs m b e f d Buy = other_queue Sell h k m b f d
+seen Sell h k xs m b e f d Sell = e
+
+changed : (s : Side) (h k : Sides) (xs : List Order) (m : ℕ) → Beside s h k → take (count_of s k) (view s k.rows.now) ≡ xs → Room s h m → drop m (view s k.rows.now) ≡ drop m (view s h.rows.now) → Changed s xs h k
+changed s h k xs m b e f d = record { queues = seen s h k xs m b e f d; room = b.rows }
 
 -- a row is written over
 pub replaced : (s : Side) (h k : Sides) (i : ℕ) (o : Order) → i < count_of s h → Beside s h k → count_of s k ≡ count_of s h → view s k.rows.now ≡ set (view s h.rows.now) i o → Changed s (set (queue s h) i o) h k

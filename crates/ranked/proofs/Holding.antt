@@ -35,10 +35,10 @@ becomes h os k p =
 
 -- after a change of one queue
 holds_by : (s : Side) (h k : Sides) (xs os : List Order) → Changed s xs h k → xs ≡ ranked s os → queue (opposite s) h ≡ ranked (opposite s) os → Holds k os
-holds_by Buy h k xs os c e d Buy = c Buy ∙ e
-holds_by Buy h k xs os c e d Sell = c Sell ∙ d
-holds_by Sell h k xs os c e d Buy = c Buy ∙ d
-holds_by Sell h k xs os c e d Sell = c Sell ∙ e
+holds_by Buy h k xs os c e d Buy = c.queues Buy ∙ e
+holds_by Buy h k xs os c e d Sell = c.queues Sell ∙ d
+holds_by Sell h k xs os c e d Buy = c.queues Buy ∙ d
+holds_by Sell h k xs os c e d Sell = c.queues Sell ∙ e
 
 -- the other side is another side
 opposite_not : (s : Side) → same_side (opposite s) s ≡ false

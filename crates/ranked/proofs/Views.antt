@@ -1,5 +1,5 @@
 -- A view read and written at one place, and the rotations by which rows move.
-use Rattle.std.proofs.Common.{◌≡◌, ℕ, suc, ◌+◌, ◌-◌, ◌<◌, ◌≤◌, List, [], ◌∷◌, ◌++◌, reverse, length, get_or, take, drop, set, sym, refl, ap, ◌∙◌, subst, arith, drop-cons}
+use Rattle.std.proofs.Common.{◌≡◌, ℕ, suc, ◌+◌, ◌-◌, ◌<◌, ◌≤◌, List, [], ◌∷◌, ◌++◌, reverse, length, get_or, take, drop, set, sym, refl, ap, ◌∙◌, arith, drop-cons}
 use borrow.Rule.Slice.PartMut.{put_mid, mid_of}
 use Rattle.std.specs.List.{insert, remove, between}
 use Rattle.std.proofs.lemmas.List.Edits.{insert-append_left, remove-append_left, insert_end, length-remove}
@@ -140,29 +140,19 @@ reverse_moved l i j p q x h k e f =
     let n : length (remove l i) - j ≡ q = omega (arith, length-remove l i h) in
     reverse_insert (remove l i) j x ∙ cc (reverse_remove l i h)
 
--- the part of a side from its i-th row up to its j-th, counted from the back
-module _ (rows part : List Order) (i j k : ℕ) (d : Order) (from : i ≤ j) (within : j < length rows) (long : k ≡ length rows - i - (length rows - 1 - j)) where
-  -- its last row in the slice
-  abbrev top : ℕ
-  top = length rows - 1 - i
+-- a place of a side is a row of the slice
+pub row_within : (s : Side) (count i : ℕ) → i < count → row_index count s i < count
+row_within Buy count i h = h
+row_within Sell count i h = omega arith
 
-  abbrev low : ℕ
-  low = length rows - 1 - j
-
-  count : k ≡ top + 1 - low
-  count = omega arith
-
-  -- turned one back
-  pub far_turned_back : part ≡ drop 1 (mid_of low k rows) ++ take 1 (mid_of low k rows) → reverse (put_mid low k rows part) ≡ insert (remove (reverse rows) j) i (get_or (reverse rows) j d)
-  far_turned_back e =
-      let moved = turned_back rows part low top d (omega arith) (omega arith) (subst (λ n. part ≡ drop 1 (mid_of low n rows) ++ take 1 (mid_of low n rows)) count e) in
-      ap (λ n. reverse (put_mid low n rows part)) count ∙ ap reverse moved ∙ reverse_moved rows low top j i (get_or rows low d) (omega arith) (omega arith) (omega arith) (omega arith) ∙ ap (insert (remove (reverse rows) j) i) (sym (get_or-reverse rows j d within))
-
-  -- and on
-  pub far_turned_on : part ≡ drop (length (mid_of low k rows) - 1) (mid_of low k rows) ++ take (length (mid_of low k rows) - 1) (mid_of low k rows) → reverse (put_mid low k rows part) ≡ insert (remove (reverse rows) i) j (get_or (reverse rows) i d)
-  far_turned_on e =
-      let moved = turned_on rows part low top d (omega arith) (omega arith) (subst (λ n. part ≡ drop (length (mid_of low n rows) - 1) (mid_of low n rows) ++ take (length (mid_of low n rows) - 1) (mid_of low n rows)) count e) in
-      ap (λ n. reverse (put_mid low n rows part)) count ∙ ap reverse moved ∙ reverse_moved rows top low i j (get_or rows top d) (omega arith) (omega arith) (omega arith) (omega arith) ∙ ap (insert (remove (reverse rows) i) j) (sym (get_or-reverse rows i d (omega arith)))
+-- a row moved from one place of a side to another
+pub view_moved : (s : Side) (rows : List Order) (i j : ℕ) (d : Order) → i < length rows → j < length rows → view s (insert (remove rows (row_index (length rows) s i)) (row_index (length rows) s j) (get_or rows (row_index (length rows) s i) d)) ≡ insert (remove (view s rows) i) j (get_or (view s rows) i d)
+unfolding view
+view_moved Buy rows i j d h k = refl
+view_moved Sell rows i j d h k =
+    let p : ℕ = length rows - 1 - i in
+    let q : ℕ = length rows - 1 - j in
+    reverse_moved rows p q i j (get_or rows p d) (omega arith) (omega arith) (omega arith) (omega arith) ∙ ap (insert (remove (reverse rows) i) j) (sym (get_or-reverse rows i d h))
 
 -- a row written over the one that was put in
 pub put_over : {X : Type 0} (xs : List X) (i : ℕ) (x y : X) → i ≤ length xs → set (insert xs i x) i y ≡ insert xs i y

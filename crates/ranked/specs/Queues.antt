@@ -28,6 +28,7 @@ queue s h = take (count_of s h) (view s h.rows.now)
 abbrev pub HasRoom : Sides → Type 0
 HasRoom h = h.buys + h.sells < capacity_of h
 
--- the queue of a side is xs, and the other is as it was
-abbrev pub Changed : Side → List Order → Sides → Sides → Type 0
-Changed s xs h k = (t : Side) → queue t k ≡ cond (same_side t s) xs (queue t h)
+-- the queue of a side is xs, the other is as it was, and there are as many rows
+pub record Changed (s : Side) (xs : List Order) (h k : Sides) : Type 0 where
+  pub queues : (t : Side) → queue t k ≡ cond (same_side t s) xs (queue t h)
+  pub room : capacity_of k ≡ capacity_of h

@@ -1,9 +1,12 @@
-ghost use Rattle.std.specs.Prelude.{◌≡◌, ◌<◌, ◌≤◌, length, slice_index_or, slice_set};
+ghost use Rattle.std.specs.Prelude.{◌≡◌, ◌<◌, length, slice_index_or, slice_set};
 ghost use Rattle.std.specs.List.{insert, remove};
 ghost use Rattle.rows.specs.Rows.{blank};
 ghost use Rattle.ranked.specs.Views.{view, row_index};
 
 use model::{Order, Side};
+
+// Functions of the rows, and no methods of `Sides`: each that writes would have to promise that the counts stay.
+// A side and an index, and no position: a move has two places on one side. That they are among the rows is required, as of any index.
 
 // The i-th row from the end of a side.
 pub(crate) fn read_row(rows: &[Order], side: Side, i: usize) -> Order
@@ -23,39 +26,18 @@ pub(crate) fn write_row(rows: &mut [Order], side: Side, i: usize, order: Order)
     rows[at] = order;
 }
 
-// Puts an order in as the i-th row, and moves the rows from there on one on, over the last.
-pub(crate) fn insert_row(rows: &mut [Order], side: Side, i: usize, last: usize, order: Order)
-    requires from { i ≤ last }
-    requires upto { last < length rows.old }
-    ensures { view side rows.new ≡ insert (remove (view side rows.old) last) i order }
+// Moves the row at one place to another, and those between them by one.
+pub(crate) fn move_row(rows: &mut [Order], side: Side, from: usize, to: usize)
+    requires from { from < length rows.old }
+    requires to { to < length rows.old }
+    ensures { view side rows.new ≡ insert (remove (view side rows.old) from) to (slice_index_or (view side rows.old) from blank) }
 {
-    open_row(rows, side, i, last);
-    write_row(rows, side, i, order);
-}
-
-// Moves the last row to the i-th place, and those from there on one on.
-fn open_row(rows: &mut [Order], side: Side, i: usize, last: usize)
-    requires from { i ≤ last }
-    requires upto { last < length rows.old }
-    ensures { view side rows.new ≡ insert (remove (view side rows.old) last) i (slice_index_or (view side rows.old) last blank) }
-{
-    let count = rows.len();
-    match side {
-        Side::Buy => rows[i..last + 1].rotate_right(1),
-        Side::Sell => rows[count - 1 - last..count - i].rotate_left(1),
-    }
-}
-
-// Moves the i-th row to the last place, and those above it one back.
-pub(crate) fn remove_row(rows: &mut [Order], side: Side, i: usize, last: usize)
-    requires from { i ≤ last }
-    requires upto { last < length rows.old }
-    ensures { view side rows.new ≡ insert (remove (view side rows.old) i) last (slice_index_or (view side rows.old) i blank) }
-{
-    let count = rows.len();
-    match side {
-        Side::Buy => rows[i..last + 1].rotate_left(1),
-        Side::Sell => rows[count - 1 - last..count - i].rotate_right(1),
+    let source = row_index(rows.len(), side, from);
+    let target = row_index(rows.len(), side, to);
+    if source <= target {
+        rows[source..target + 1].rotate_left(1);
+    } else {
+        rows[target..source + 1].rotate_right(1);
     }
 }
 

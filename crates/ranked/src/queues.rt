@@ -8,10 +8,11 @@ ghost use Rattle.rows.specs.Rows.{blank};
 ghost use Rattle.ranked.specs.Views.{view};
 ghost use Rattle.ranked.specs.Queues.{count_of, capacity_of, queue, HasRoom, Changed};
 
-use crate::moving::{insert_row, read_row, remove_row, write_row};
+use crate::moving::{move_row, read_row, write_row};
 use crate::orders::Orders;
 use crate::position::Position;
 use crate::sides::Sides;
+use book::MAX_CAPACITY;
 use model::{Order, Side};
 
 impl<'a> Sides<'a> {
@@ -21,7 +22,7 @@ impl<'a> Sides<'a> {
         ensures sells { count_of Sell result ≡ 0 }
         ensures room { capacity_of result ≡ min (length rows.old) max_capacity }
     {
-        let room = rows.len().min(4_096);
+        let room = rows.len().min(MAX_CAPACITY);
         Sides {
             rows: &mut rows[..room],
             buys: 0,
@@ -76,8 +77,7 @@ impl<'a> Sides<'a> {
     // Writes an order over the one at a position.
     pub(crate) fn replace(&mut self, at: Position, order: Order)
         requires { at.index < count_of at.side self.old }
-        ensures after { Changed at.side (slice_set (queue at.side self.old) at.index order) self.old self.new }
-        ensures room { capacity_of self.new ≡ capacity_of self.old }
+        ensures { Changed at.side (slice_set (queue at.side self.old) at.index order) self.old self.new }
     {
         write_row(self.rows, at.side, at.index, order);
     }
@@ -86,11 +86,11 @@ impl<'a> Sides<'a> {
     pub(crate) fn insert(&mut self, at: Position, order: Order)
         requires free { HasRoom self.old }
         requires within { at.index ≤ count_of at.side self.old }
-        ensures after { Changed at.side (insert (queue at.side self.old) at.index order) self.old self.new }
-        ensures room { capacity_of self.new ≡ capacity_of self.old }
+        ensures { Changed at.side (insert (queue at.side self.old) at.index order) self.old self.new }
     {
         let count = self.len(at.side);
-        insert_row(self.rows, at.side, at.index, count, order);
+        move_row(self.rows, at.side, count, at.index);
+        write_row(self.rows, at.side, at.index, order);
         self.set_len(at.side, count + 1);
     }
 
@@ -99,10 +99,9 @@ impl<'a> Sides<'a> {
         requires { at.index < count_of at.side self.old }
         ensures free { HasRoom self.new }
         ensures after { Changed at.side (remove (queue at.side self.old) at.index) self.old self.new }
-        ensures room { capacity_of self.new ≡ capacity_of self.old }
     {
         let last = self.len(at.side) - 1;
-        remove_row(self.rows, at.side, at.index, last);
+        move_row(self.rows, at.side, at.index, last);
         self.set_len(at.side, last);
     }
 

@@ -4,7 +4,7 @@ ghost use Rattle.model.specs.Orders.{find};
 ghost use Rattle.model.specs.Rank.{before, insert as ranked_in};
 ghost use Rattle.book.specs.Meaning.{all_below};
 ghost use Rattle.rows.specs.Rows.{blank};
-ghost use Rattle.ranked.specs.Queues.{count_of, capacity_of, queue, HasRoom, Changed};
+ghost use Rattle.ranked.specs.Queues.{count_of, queue, HasRoom, Changed};
 ghost use Rattle.ranked.specs.Positions.{StandsAt, Located, nth_of};
 
 use crate::position::Position;
@@ -17,8 +17,7 @@ impl<'a> Sides<'a> {
     // a free row is required, and no fact of the type: a full table has none
     pub(crate) fn enter(&mut self, order: Order)
         requires { HasRoom self.old }
-        ensures after { Changed order.side (ranked_in order.side order (queue order.side self.old)) self.old self.new }
-        ensures room { capacity_of self.new ≡ capacity_of self.old }
+        ensures { Changed order.side (ranked_in order.side order (queue order.side self.old)) self.old self.new }
     {
         let index = self.rank_of(order);
         let side = order.side;
@@ -29,12 +28,9 @@ impl<'a> Sides<'a> {
     pub(crate) fn nth(&self, side: Side, n: usize) -> Option<Order>
         ensures { result ≡ nth_of n (count_of side self.now) (queue side self.now) }
     {
-        if 0 < n && n <= self.len(side) {
-            let index = n - 1;
-            Some(self.at(Position { side, index }))
-        } else {
-            None
-        }
+        let count = self.len(side);
+        let index = n.checked_sub(1).filter(|index| *index < count)?;
+        Some(self.at(Position { side, index }))
     }
 
     // Where the order with a number stands.

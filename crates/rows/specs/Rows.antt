@@ -1,5 +1,5 @@
 -- What the rows of a table keep.
-use Rattle.std.specs.Prelude.{ℕ, List, [], ◌∷◌}
+use Rattle.std.specs.Prelude.{List, [], ◌∷◌}
 use Rattle.std.proofs.Math.Bridge.{le_prop}
 use Rattle.std.specs.List.{AllByRecursion}
 use Rattle.model.specs.declared.types.Side.TheVariants.{Buy}

@@ -4,6 +4,7 @@ ghost use Rattle.model.specs.Rank.{better, before};
 use model::{Order, OrderPrice, Side};
 
 // Whether one of two rows of a side ranks before the other.
+// By side, and no Ord: buys and sells rank their prices in opposite ways.
 pub fn comes_before(side: Side, a: Order, b: Order) -> bool
     ensures { result ≡ before side a b }
 {

@@ -71,6 +71,7 @@ impl<B: Book, R: PriceRule> Session<B, R> {
     }
 
     // Puts the called price back: the random period goes on without it. The price that waits for its strike is never refused.
+    // It answers 0, since by the rules every call answers a number.
     pub fn put_back(&mut self, called: &mut CalledPrice) -> Result<u64, Refusal>
         requires live { 0 < called.old.quantity }
         ensures refusal { refusal_of result ≡ (put_back_outcome (state B.orders B.capacity self.old) called.old.price called.old.quantity).refusal }

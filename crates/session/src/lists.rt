@@ -12,6 +12,7 @@ use model::{Answer, Call, Point, Refusal, TapeRecord};
 use pricing::PriceRule;
 
 // Runs a list of calls from first to last, and writes one answer for each. A list with more calls than there are places for answers is refused whole.
+// Answers, tape and scratch are three parameters, as in the other calls: a struct of them would be made for each call, and each is promised by itself.
 pub fn run<B: Book, R: PriceRule>(
     session: &mut Session<B, R>,
     calls: &[Call],
@@ -27,7 +28,7 @@ pub fn run<B: Book, R: PriceRule>(
     if answers.len() < calls.len() {
         return Err(Refusal::AnswersTooShort);
     }
-    // Answers by index: after a zip with iter_mut no proof knows what they hold.
+    // Answers by index: of what a zip writes nothing is known, and over the answers the calls would be by index.
     for (i, call) in calls.iter().enumerate() {
         answers[i] = Answer::from(session.step(*call, tape, scratch));
     }

@@ -12,6 +12,7 @@ use pricing::{MostTraded, PriceRule};
 
 impl<B: Book, R: PriceRule> Session<B, R> {
     // A new session in pre-opening over an empty book, or the first question that is answered no, with book and rule given back.
+    // Given back as three, and no struct: a caller takes them apart at once.
     pub fn new(terms: Terms, book: B, rule: R) -> Result<Session<B, R>, (Refusal, B, R)>
         ensures { MatchResult result (λ s. (make_refusal (offered terms) terms.last_number (B.orders book) ≡ no_refusal) × (state B.orders B.capacity s ≡ made (offered terms) terms.last_number (B.orders book) (B.capacity book)) × (s.book ≡ book) × (s.rule.below ≡ rule) × New (state B.orders B.capacity s)) (λ e. (code e.0 ≡ make_refusal (offered terms) terms.last_number (B.orders book)) × (e.1 ≡ book) × (e.2 ≡ rule)) }
     {

@@ -17,7 +17,7 @@ use Rattle.model.proofs.Standing.{lower_standing, standing_distinct}
 use Rattle.model.proofs.Volumes.{find_has}
 use Rattle.book.specs.Plain.{plain}
 use Rattle.book.specs.Meaning.{can_take}
-use Rattle.striking.specs.declared.parties.Party.{Party}
+use Rattle.walking.specs.declared.placed.Placed.{Placed}
 use Rattle.walking.specs.Walks.{actives}
 use Rattle.striking.specs.Parties.{willing, parties, Passed, Leads}
 use Rattle.striking.specs.Meetings.{Meets}
@@ -81,7 +81,7 @@ module _ (g : Settings) (s : Side) (p : ℕ) (os : List Order) (d : Distinct os)
         ∙ sym (ap (actives g) e)
 
 -- the first parties of both sides trade
-module _ (g : Settings) (p v hi : ℕ) (os : List Order) (st : Standing 0 os hi) (from_b from_s : ℕ) (buy sell : Party) (passed_b : Passed g Buy os from_b) (passed_s : Passed g Sell os from_s) (fb : Leads g Buy p os from_b buy.place (plain buy.order)) (fs : Leads g Sell p os from_s sell.place (plain sell.order))
+module _ (g : Settings) (p v hi : ℕ) (os : List Order) (st : Standing 0 os hi) (from_b from_s : ℕ) (buy sell : Placed) (passed_b : Passed g Buy os from_b) (passed_s : Passed g Sell os from_s) (fb : Leads g Buy p os from_b buy.place (plain buy.order)) (fs : Leads g Sell p os from_s sell.place (plain sell.order))
     (some : 1 ≤ v) (t : ℕ) (is : t ≡ min (min buy.order.left sell.order.left) v) where
   abbrev kb : ℕ
   kb = buy.place

@@ -1,6 +1,7 @@
 -- A walk over the orders of a side that may trade at a price.
-use Rattle.std.proofs.Common.{◌≡◌, ℕ, zero, suc, ◌+◌, ◌≤◌, Bool, true, false, cond, ◌&&◌, List, [], ◌∷◌, length, drop, filter, sym, refl, ap, ◌∙◌, subst, ⊎_elim, arith}
+use Rattle.std.proofs.Common.{◌≡◌, ℕ, ◌+◌, ◌≤◌, Bool, true, false, cond, ◌&&◌, List, [], ◌∷◌, length, drop, Some, None, filter, Option, sym, refl, ap, ◌∙◌, subst, ⊎_elim, arith}
 use Rattle.std.specs.Bool.{then_some}
+use Rattle.std.specs.Option.{MatchOption}
 use Rattle.std.specs.List.{ContainsAt as Has, AllByRecursion}
 use Rattle.std.proofs.lemmas.Bool.{cond-true, cond-false, cases_Bool, both_ways}
 use Rattle.std.proofs.ByRecursion.{All-drop, all-has, all_has_itself, All-weaker, kept_by_passes}
@@ -12,13 +13,13 @@ use Rattle.model.specs.Rank.{ranked}
 use Rattle.model.specs.Auction.{at_price}
 use Rattle.model.proofs.Lists.{Pairwise, has_here, kept_has, pairwise_drop, pairwise_kept}
 use Rattle.model.proofs.Ranking.{Wider, ranked_wider, of_side, all_ranked, ranked_has}
-use Rattle.walking.specs.Walks.{actives, Found}
+use Rattle.walking.specs.Walks.{actives, Found, Next}
 use Rattle.model.specs.Orders.{Standing}
 use Rattle.model.proofs.Lengths.{length_ranked}
 use Rattle.model.proofs.Standing.{standing_alive}
 use Rattle.book.specs.Plain.{plain}
 use Rattle.book.specs.Meaning.{max_capacity}
-use Rattle.striking.specs.declared.parties.Party.{Party}
+use Rattle.walking.specs.declared.placed.Placed.{Placed}
 use Rattle.striking.specs.Parties.{willing, parties, First}
 use Rattle.model.proofs.Commuting.{kept_ranked}
 
@@ -66,7 +67,7 @@ module _ (s : Side) (os : List Order) where
   ranked_stands o h = kept_has (of_side s) os o (ranked_has s os o h)
 
 -- the first active order is the first party, or there is none
-pub first_is : (g : Settings) (s : Side) (p hi : ℕ) (os : List Order) (from : ℕ) (f : Party) → Standing 0 os hi → length os ≤ max_capacity → Found g (ranked s os) from f.place (plain f.order) → (b : Bool) → b ≡ allows s f.order.price p → First g s p os from (then_some b f)
+first_is : (g : Settings) (s : Side) (p hi : ℕ) (os : List Order) (from : ℕ) (f : Placed) → Standing 0 os hi → length os ≤ max_capacity → Found g (ranked s os) from f.place (plain f.order) → (b : Bool) → b ≡ allows s f.order.price p → First g s p os from (then_some b f)
 first_is g s p hi os from f st few h true e = record {
   place = omega (arith, h.place, length_ranked s os, few);
   some = all-has (λ x. 1 ≤ x.left) os (plain f.order) (standing_alive 0 hi os st) (ranked_stands s os (plain f.order) (has_at_place s os f.place (plain f.order) _ h.here)).0;
@@ -76,3 +77,9 @@ first_is g s p hi os from f st few h true e = record {
   first = party_here g s p os from f.place (plain f.order) h (sym e);
 }
 first_is g s p hi os from f st few h false e = party_none g s p os from f.place (plain f.order) h (sym e)
+
+-- so what passes of the first active order is the first party
+pub first_passing : (g : Settings) (s : Side) (p hi : ℕ) (os : List Order) (from : ℕ) (a r : Option Placed) (Test : Placed → Bool → Type 0) → Standing 0 os hi → length os ≤ max_capacity → Next g (ranked s os) from a
+    → ((f : Placed) (b : Bool) → Test f b → b ≡ allows s (plain f.order).price p) → MatchOption a (r ≡ None) (λ f. (b : Bool) × Test f b × (r ≡ then_some b f)) → First g s p os from r
+first_passing g s p hi os from None r Test st few n t h = subst (First g s p os from) (sym h) (ap (willing s p) n)
+first_passing g s p hi os from (Some f) r Test st few n t h = subst (First g s p os from) (sym h.2) (first_is g s p hi os from f st few n h.0 (t f h.0 h.1))

@@ -8,7 +8,7 @@ use Rattle.model.specs.Rank.{ranked}
 use Rattle.book.specs.Plain.{plain}
 use Rattle.book.specs.Meaning.{max_capacity}
 use Rattle.walking.specs.Walks.{actives}
-use Rattle.striking.specs.declared.parties.Party.{Party}
+use Rattle.walking.specs.declared.placed.Placed.{Placed}
 
 -- those of some orders of side s that allow p
 abbrev pub willing : Side → ℕ → List Order → List Order
@@ -32,6 +32,6 @@ pub record Leads (g : Settings) (s : Side) (p : ℕ) (os : List Order) (from k :
   pub first : parties g s p from os ≡ o ∷ parties g s p (k + 1) os
 
 -- the first party, or none where no party is left
-abbrev pub First : Settings → Side → ℕ → List Order → ℕ → Option Party → Type 0
+abbrev pub First : Settings → Side → ℕ → List Order → ℕ → Option Placed → Type 0
 First g s p os from None = parties g s p from os ≡ []
 First g s p os from (Some f) = Leads g s p os from f.place (plain f.order)

@@ -8,18 +8,19 @@ ghost use Rattle.grid.specs.Views.{plain};
 ghost use Rattle.striking.specs.Parties.{Passed};
 ghost use Rattle.striking.specs.Meetings.{trade_record, reached, NextMeeting};
 
-use crate::parties::{Party, first_party};
+use crate::parties::first_party;
 use book::Book;
 use grid::Settings;
 use model::{Side, TapeRecord};
 use tape::Tape;
+use walking::Placed;
 
 // A buy and a sell that meet, and the quantity that they trade.
 // A field for each side, and no table over sides: a trade has one of both.
 #[derive(Clone, Copy)]
 pub(crate) struct Meeting {
-    pub(crate) buy: Party,
-    pub(crate) sell: Party,
+    pub(crate) buy: Placed,
+    pub(crate) sell: Placed,
     pub(crate) quantity: u64,
 }
 

@@ -5,10 +5,11 @@ ghost use Rattle.book.specs.Plain.{plain as plain_order};
 ghost use Rattle.grid.specs.Views.{plain};
 ghost use Rattle.striking.specs.Counts.{advanced, start, one_more, Counts, NextCount};
 
-use crate::parties::{Party, first_party};
+use crate::parties::first_party;
 use book::Book;
 use grid::Settings;
 use model::Side;
+use walking::Placed;
 use withdrawing::count_markets;
 
 // How many records a strike writes: its trades, and the withdrawals of market orders that trade nothing.
@@ -28,7 +29,7 @@ pub(crate) struct Progress {
 
 impl Progress {
     // A side after a trade of its first party, which counts once where it is a market order.
-    fn advance(self, first: Party, quantity: u64) -> Progress
+    fn advance(self, first: Placed, quantity: u64) -> Progress
         requires place { first.place < max_capacity }
         requires few { self.markets ≤ max_capacity }
         requires limited { self.spent + quantity ≤ first.order.left }
@@ -78,7 +79,7 @@ impl Tally {
     }
 
     // A count after a trade of a buy and a sell, of which something is left.
-    fn count(self, buy: Party, sell: Party) -> Tally
+    fn count(self, buy: Placed, sell: Placed) -> Tally
         requires places { (buy.place < max_capacity) × (sell.place < max_capacity) }
         requires few { (self.buys.markets ≤ max_capacity) × (self.sells.markets ≤ max_capacity) }
         requires some { (self.buys.spent < buy.order.left) × (self.sells.spent < sell.order.left) }
@@ -110,12 +111,13 @@ impl Tally {
 }
 
 // How many trades a strike makes, and how many market orders trade nothing in it.
+// Price and volume are two parameters, here and below: the one stays, and the other falls with each trade.
 pub fn strike_size<B: Book>(book: &B, settings: &Settings, price: u32, volume: u64) -> StrikeSize
     ensures trades { result.trades ≡ length (trades_at (plain settings.now) price volume (B.orders book.now)) }
     ensures idle { result.idle ≡ length (filter (is_idle (trades_at (plain settings.now) price volume (B.orders book.now))) (B.orders book.now)) }
 {
     let mut tally = Tally::new(volume);
-    // a walk over both sides at once: a trade may leave the first party of one of them where it is
+    // a walk, and no `successors`: its last is an option, and here there is always one
     while let Some(next) = count_next(book, settings, price, tally) {
         tally = next;
     }

@@ -2,18 +2,9 @@ use crate::showing::shown_day;
 use choices::{Rule, Table};
 use grid::Terms;
 use model::{Call, Condition, Entry, Order, OrderPrice, Side};
-use std::alloc::Global;
+use samples::TERMS;
 use std::process::Abort;
 use std::test::Fail;
-
-// A tick of 1, an indicative price of 100, an absolute band of 20 and a static band of 10 percent. The programs have terms of their own.
-pub(crate) const TERMS: Terms = Terms {
-    tick: 1,
-    indicative: 100,
-    absolute: 20,
-    static_band: 10,
-    last_number: 0,
-};
 
 // What a session is made of, and the lengths of what it is lent.
 #[derive(Clone, Copy)]
@@ -47,7 +38,7 @@ impl Market {
     }
 }
 
-// Orders of one member, at any price. `day` has three members and takes numbers: a crate for both would be more than they are.
+// Orders of one member, at any price. Those of `day` take a member and a number, and functions for both would each need a contract.
 pub(crate) fn buy(price: OrderPrice, quantity: u64) -> Call {
     order(Side::Buy, price, quantity, Condition::Plain)
 }
@@ -73,12 +64,12 @@ pub(crate) fn at(limit: u32) -> OrderPrice {
 
 // A day of this market comes to what is written here.
 pub(crate) fn expect(
-    rt: &impl Abort,
-    heap: Global,
+    rt: &(impl Abort + AllocGlobal),
     market: Market,
     calls: &[Call],
     outcome: &'static str,
 ) -> Result<(), Fail> {
+    let heap = rt.alloc();
     // contents of its own, to see that what a book does not use makes no difference
     let blank = Order {
         number: 9,

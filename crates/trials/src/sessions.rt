@@ -1,11 +1,12 @@
 ghost use Rattle.std.specs.Prelude.{◌≡◌, ◌<◌};
 
-use crate::market::{TERMS, at, buy, sell};
+use crate::market::{at, buy, sell};
 use arrival::ArrivalBook;
 use book::{Book, StandingOrder};
 use model::{Answer, Call, Order, OrderPrice, Point, Refusal, Side, TapeRecord};
 use pricing::{Nearest, PriceRule};
 use ranked::RankedBook;
+use samples::TERMS;
 use session::{CalledPrice, Session, run};
 use std::process::Abort;
 

@@ -44,11 +44,16 @@ pub(crate) fn shown_day<B: Book + Drop>(
         &mut scratch,
     ) {
         Ok(end) => {
-            show_answers(&mut line, &answers, end.calls)?;
-            show_records(&mut line, &tape, end.used)?;
+            for answer in answers.iter().take(end.calls) {
+                show_answer(&mut line, *answer)?;
+            }
+            write!(line, "|")?;
+            for record in tape.iter().take(end.used) {
+                show_record(&mut line, *record)?;
+            }
             let reference = end.reference;
             let standing = end.standing;
-            write!(line, " at {reference}, {standing} stand")?;
+            write!(line, " | at {reference}, {standing} stand")?;
         }
         Err(why) => {
             let number = u8::from(why);
@@ -58,25 +63,14 @@ pub(crate) fn shown_day<B: Book + Drop>(
     Ok(line)
 }
 
-fn show_answers(line: &mut String, answers: &[Answer], count: usize) -> Result<(), Fail> {
-    for answer in answers.iter().take(count) {
-        match Result::<u64, Refusal>::try_from(*answer)? {
-            Ok(value) => write!(line, "{value} ")?,
-            Err(why) => {
-                let number = u8::from(why);
-                write!(line, "!{number} ")?;
-            }
+fn show_answer(line: &mut String, answer: Answer) -> Result<(), Fail> {
+    match Result::<u64, Refusal>::try_from(answer)? {
+        Ok(value) => write!(line, "{value} ")?,
+        Err(why) => {
+            let number = u8::from(why);
+            write!(line, "!{number} ")?;
         }
     }
-    Ok(())
-}
-
-fn show_records(line: &mut String, tape: &[TapeRecord], used: usize) -> Result<(), Fail> {
-    write!(line, "|")?;
-    for record in tape.iter().take(used) {
-        show_record(line, *record)?;
-    }
-    write!(line, " |")?;
     Ok(())
 }
 

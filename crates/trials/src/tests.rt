@@ -8,15 +8,14 @@ use std::test::Fail;
 
 #[test]
 fn both_tables_give_the_known_outcomes(rt: HostRuntime) -> Result<(), Fail> {
-    let heap = rt.alloc();
     for table in [Table::Arrival, Table::Ranked] {
-        called_prices(&rt, heap, table)?;
-        other_auctions(&rt, heap, table)?;
-        grid_ends(&rt, heap, table)?;
-        interruptions(&rt, heap, table)?;
-        trading_and_making(&rt, heap, table)?;
-        refused_calls(&rt, heap, table)?;
-        short_slices(&rt, heap, table)?;
+        called_prices(&rt, table)?;
+        other_auctions(&rt, table)?;
+        grid_ends(&rt, table)?;
+        interruptions(&rt, table)?;
+        trading_and_making(&rt, table)?;
+        refused_calls(&rt, table)?;
+        short_slices(&rt, table)?;
     }
     occupied_books(&rt);
     foreign_prices(&rt);

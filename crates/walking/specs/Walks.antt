@@ -2,8 +2,9 @@
 use Rattle.std.specs.Prelude.{◌≡◌, ℕ, ◌+◌, ◌<◌, ◌≤◌, List, [], ◌∷◌, length, drop, Some, None, filter, Option}
 use Rattle.model.specs.declared.types.Order.{Order}
 use Rattle.model.specs.Grid.{Settings, active}
-use Rattle.book.specs.declared.standing.StandingOrder.{StandingOrder}
+use Rattle.book.specs.Meaning.{place as nth}
 use Rattle.book.specs.Plain.{plain}
+use Rattle.walking.specs.declared.placed.Placed.{Placed}
 
 -- the active ones of some orders
 abbrev pub actives : Settings → List Order → List Order
@@ -18,6 +19,11 @@ pub record Found (g : Settings) (xs : List Order) (from k : ℕ) (o : Order) : T
   pub onward : actives g (drop from xs) ≡ o ∷ actives g (drop (k + 1) xs)
 
 -- the first active order, with its place, or none where no active order is left
-abbrev pub Next : Settings → List Order → ℕ → Option (ℕ × StandingOrder) → Type 0
+abbrev pub Next : Settings → List Order → ℕ → Option Placed → Type 0
 Next g xs from None = actives g (drop from xs) ≡ []
-Next g xs from (Some f) = Found g xs from f.0 (plain f.1)
+Next g xs from (Some f) = Found g xs from f.place (plain f.order)
+
+-- the order at a place, from 0, or none past the end
+abbrev pub StandsAt : List Order → ℕ → Option Placed → Type 0
+StandsAt xs i None = None ≡ nth (i + 1) xs
+StandsAt xs i (Some f) = (f.place ≡ i) × (Some (plain f.order) ≡ nth (i + 1) xs)

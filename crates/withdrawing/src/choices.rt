@@ -6,7 +6,7 @@ ghost use Rattle.book.specs.Plain.{plain};
 use book::StandingOrder;
 
 // Which orders are withdrawn.
-// A trait, and no closure: the contracts can name the orders that it chooses.
+// A trait, and no closure: what a closure answers is a relation, and the contracts filter by a function.
 pub(crate) trait Choice: Copy {
     // an order is among them
     ghost chosen: { Order → Bool };

@@ -21,13 +21,9 @@ fn markets_on<B: Book>(book: &B, side: Side) -> usize
     ensures { result ≡ length (filter is_market_order (ranked side (B.orders book.now))) }
 {
     let (count, _) = book.count();
-    // a range, and no chain: the book has no slice to go over, and the number reached is the answer
-    for n in 0..count {
-        if !is_market_order(book.nth(side, n + 1)) {
-            return n;
-        }
-    }
-    count
+    (0..count)
+        .position(|n| !is_market_order(book.nth(side, n + 1)))
+        .unwrap_or(count)
 }
 
 // Whether there is an order, and it is a market order.

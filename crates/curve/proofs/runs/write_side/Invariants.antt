@@ -7,4 +7,4 @@ use Rattle.curve.proofs.runs.write_side.Given as goal
 abbrev pub invariant-loop-turn : goal.invariant-loop-turn
 invariant-loop-turn g l =
     let os = g.B.Book.orders l.book in
-    Counted os l.mark × Written (plain l.settings) l.side (ranked l.side os) l.from l.initial.points l.turn l.mark l.points
+    Counted (plain l.run.settings.now) l.side os l.mark × Written (plain l.run.settings.now) l.side (ranked l.side os) l.run.from l.initial.points l.turn l.mark l.points

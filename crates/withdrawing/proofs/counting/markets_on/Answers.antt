@@ -1,18 +1,10 @@
-use Rattle.std.proofs.Common.{length, sym, ap, ◌∙◌, arith}
+use Rattle.std.proofs.Common.{rules, sym, refl, ◌∙◌}
 use Rattle.model.specs.Numbers.{max_number}
-use Rattle.model.specs.Rank.{ranked}
-use Rattle.book.specs.Plain.{as_plain}
-use Rattle.book.proofs.Places.{past_all}
-use Rattle.withdrawing.proofs.Markets.{markets, market_here, market_end}
+use Rattle.withdrawing.proofs.Markets.{markets_passed}
 use Rattle.withdrawing.proofs.counting.markets_on.Goals as goal
 
-pub returns-then-not-is_market_order : goal.returns-then-not-is_market_order
-returns-then-not-is_market_order g c =
-    let book = c.args.book.now in
-    omega (arith, c.loop-n.invariant, ap length (market_end max_number c.args.side (g.B.Book.orders book) c.loop-n.n (as_plain c.nth.result) (g.B.Book.kept.standing book) c.nth.ensures (sym c.is_market_order.ensures ∙ c.if-not-is_market_order.true)))
-
-pub loop-n-preserved : goal.loop-n-preserved
-loop-n-preserved g c = omega (arith, c.loop-n.invariant, market_here (ranked c.args.side (g.B.Book.orders c.args.book.now)) c.loop-n.n (as_plain c.nth.result) c.nth.ensures (sym c.is_market_order.ensures ∙ c.if-not-is_market_order.false))
-
 pub returns : goal.returns
-returns g c = omega (arith, c.loop-n.invariant, c.count-count.ensures.0, ap (λ l. length (markets l)) (past_all c.args.side (g.B.Book.orders c.args.book.now) c.loop-n.n (omega (arith, c.count-count.ensures.0))))
+returns g c =
+    let h = c.position.ensures.ran in
+    let os = g.B.Book.orders c.args.book.now in
+    c.unwrap_or.ensures ∙ markets_passed _ max_number c.args.side os (g.B.Book.kept.standing c.args.book.now) _ (λ i b f k. search rules) h.0 (record { start = 0; end = c.count-count.result.0 }) h.3.0 _ h.1 c.position.result h.2 refl (sym c.count-count.ensures.0) h.3.1 h.3.2 h.4 h.5

@@ -3,12 +3,6 @@ use Rattle.book.specs.Plain.{as_plain}
 use Rattle.book.proofs.Nearest.{after_both}
 use Rattle.book.proofs.meaning.Book.after.Goals as goal
 
-pub next_on-buy-requires : goal.next_on-buy-requires
-next_on-buy-requires g c κs = λ h. h
-
-pub next_on-sell-requires : goal.next_on-sell-requires
-next_on-sell-requires g c κs = λ h. h
-
 pub returns : goal.returns
 returns g c =
     after_both max_number c.args.number (g.Self.Book.orders c.args.self.now) (as_plain c.next_on-buy.result) (as_plain c.next_on-sell.result) (as_plain c.lower_numbered.result)

@@ -1,18 +1,11 @@
-use Rattle.std.proofs.Common.{sym, arith}
+use Rattle.std.proofs.Common.{sym}
 use Rattle.model.proofs.GridEnds.{count_most, count_is}
 use Rattle.grid.specs.Views.{plain}
-use Rattle.grid.proofs.Bounds.{valid, highest_small, ends_ordered}
+use Rattle.grid.proofs.Bounds.{valid}
 use Rattle.grid.proofs.settings.Settings.span.Goals as goal
 
-pub overflow_sub-result : goal.overflow_sub-result
-overflow_sub-result c = omega (arith, ends_ordered (plain c.args.self.now) (valid c.args.self.now))
+pub returns-clause-all : goal.returns-clause-all
+returns-clause-all c = sym (count_is (plain c.args.self.now))
 
-pub returns : goal.returns
-returns c =
-    let s = c.args.self.now in
-    record {
-      value = omega arith;
-      small = omega (arith, highest_small (plain s) (valid s));
-      all = sym (count_is (plain s));
-      most = count_most (plain s) (valid s);
-    }
+pub returns-clause-most : goal.returns-clause-most
+returns-clause-most c = count_most (plain c.args.self.now) (valid c.args.self.now)

@@ -1,4 +1,4 @@
-use Rattle.std.proofs.Common.{◌≡◌, ◌+◌, max, true, [], ◌∷◌, ◌++◌, sym, refl, ap, ◌∙◌, subst, arith}
+use Rattle.std.proofs.Common.{◌≡◌, ◌+◌, max, true, [], ◌∷◌, ◌++◌, sym, ap, ◌∙◌, subst, arith}
 use Rattle.model.specs.Rank.{insert}
 use Rattle.book.specs.Bounds.{Bounded}
 use Rattle.book.specs.Meaning.{all_below, addable}
@@ -11,12 +11,7 @@ use Rattle.ranked.proofs.Outcomes.{added}
 use Rattle.ranked.proofs.Replies.{addable_parts, count_meaning}
 use Rattle.ranked.proofs.Tops.{top_added}
 use Rattle.ranked.proofs.operations.RankedBookBook.add.Goals as goal
-use Rattle.ranked.proofs.operations.RankedBookBook.add.Goals.{at-invariant_of-self, at-returns, After-enter}
-
-pub returns-then-not-may_add : goal.returns-then-not-may_add
-returns-then-not-may_add c =
-    let b = c.args.self.now in
-    record { answer = sym c.if-not-may_add.true ∙ c.may_add.ensures ∙ ap (addable (capacity_of b.sides) (meaning b.sides)) c.from-row.ensures; after = refl; room = refl }
+use Rattle.ranked.proofs.operations.RankedBookBook.add.Goals.{at-invariant_of-self, at-returns-clause-after, After-enter}
 
 pub enter-requires : goal.enter-requires
 enter-requires c =
@@ -36,7 +31,7 @@ after c =
     let k = c.enter.new.self in
     let p = addable_parts (capacity_of b.sides) (meaning b.sides) (plain o) (sym (may c)) in
     let bounded : Bounded (plain o) = record { number_low = o.number_low; number_high = o.number_high; member_low = o.member_low; member_high = o.member_high; price_low = o.price_low; price_high = o.price_high; left_low = p.1; left_high = o.left_high } in
-    added b.sides k (plain o) (rank_in b) bounded p.2 (subst (λ r. Changed r.side (insert r.side r (queue r.side b.sides)) b.sides k) c.from-row.ensures c.enter.ensures.after)
+    added b.sides k (plain o) (rank_in b) bounded p.2 (subst (λ r. Changed r.side (insert r.side r (queue r.side b.sides)) b.sides k) c.from-row.ensures c.enter.ensures)
 
 pub invariant_of-self : goal.invariant_of-self
 invariant_of-self c =
@@ -47,5 +42,5 @@ invariant_of-self c =
       below = subst (λ os. all_below os (c.max-self.result + 1) ≡ true) (sym done.0) (top_added b.top c.max-self.result (plain c.args.order) (meaning b.sides) b.below (c.max-self.ensures ∙ ap (λ o. max b.top o.number) c.from-row.ensures));
     }
 
-pub returns : goal.returns
-returns c = record { answer = may (at-returns c).After-enter; after = (after (at-returns c).After-enter).0; room = c.enter.ensures.room }
+pub returns-clause-after : goal.returns-clause-after
+returns-clause-after c = (after (at-returns-clause-after c).After-enter).0

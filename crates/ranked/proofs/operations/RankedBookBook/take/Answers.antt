@@ -1,4 +1,4 @@
-use Rattle.std.proofs.Common.{◌≡◌, ◌+◌, ◌-◌, true, Some, sym, refl, ap, ◌∙◌, subst}
+use Rattle.std.proofs.Common.{◌≡◌, ◌+◌, ◌-◌, true, Some, sym, ap, ◌∙◌, subst}
 use Rattle.model.specs.Orders.{find, lower, with_left}
 use Rattle.book.specs.Meaning.{all_below, can_take}
 use Rattle.ranked.specs.InRank.{meaning}
@@ -9,7 +9,7 @@ use Rattle.ranked.proofs.Outcomes.{used_up, lessened}
 use Rattle.ranked.proofs.Replies.{some_if, none_if}
 use Rattle.ranked.proofs.Tops.{below_lower}
 use Rattle.ranked.proofs.operations.RankedBookBook.take.Goals as goal
-use Rattle.ranked.proofs.operations.RankedBookBook.take.Goals.{at-returns-in_default-after_take, at-invariant_of-self, at-invariant_of-self-2, at-returns-then-rest-eq0, at-returns, After-at-order, In-Some-after_take, After-remove, After-replace}
+use Rattle.ranked.proofs.operations.RankedBookBook.take.Goals.{at-returns-in_default-after_take-clause-answer, at-invariant_of-self, at-invariant_of-self-2, at-returns-then-rest-eq0-clause-answer, at-returns-then-rest-eq0-clause-after, at-returns-clause-answer, at-returns-clause-after, After-at-order, In-Some-after_take, After-remove, After-replace}
 
 -- the order that was found
 here : (c : goal.After-at-order) → Stands c.args.self.now.sides c.args.number c.in-Some.at c.at-order.result
@@ -24,18 +24,14 @@ under c = found c.args.self.now.sides c.args.number c.in-Some.at c.at-order.resu
 taken : (c : goal.In-Some-after_take) → (can_take c.args.amount (Some c.at-order.result) ≡ true) × (c.in-Some-after_take.rest ≡ with_left c.at-order.result (c.at-order.result.left - c.args.amount))
 taken c = some_if (can_take c.args.amount (Some c.at-order.result)) c.in-Some-after_take.rest (with_left c.at-order.result (c.at-order.result.left - c.args.amount)) c.in-Some-after_take.ensures
 
-pub returns-in_default : goal.returns-in_default
-returns-in_default c = record { answer = sym (ap (can_take c.args.amount) (missing c.args.self.now.sides c.args.number c.in_default.ensures)); after = refl; room = refl }
+pub returns-in_default-clause-answer : goal.returns-in_default-clause-answer
+returns-in_default-clause-answer c = sym (ap (can_take c.args.amount) (missing c.args.self.now.sides c.args.number c.in_default.ensures))
 
-pub returns-in_default-after_take : goal.returns-in_default-after_take
-returns-in_default-after_take c =
+pub returns-in_default-after_take-clause-answer : goal.returns-in_default-after_take-clause-answer
+returns-in_default-after_take-clause-answer c =
     let x = c.at-order.result in
     let q = c.args.amount in
-    record {
-      answer = sym (ap (can_take q) (under (at-returns-in_default-after_take c).After-at-order) ∙ none_if (can_take q (Some x)) (with_left x (x.left - q)) c.in_default-after_take.ensures);
-      after = refl;
-      room = refl;
-    }
+    sym (ap (can_take q) (under (at-returns-in_default-after_take-clause-answer c).After-at-order) ∙ none_if (can_take q (Some x)) (with_left x (x.left - q)) c.in_default-after_take.ensures)
 
 gone : (c : goal.After-remove) → Becomes c.remove.new.self (lower c.args.number c.args.amount (meaning c.args.self.now.sides))
 gone c =
@@ -51,20 +47,19 @@ invariant_of-self c =
       below = subst (λ os. all_below os (top + 1) ≡ true) (sym (gone c).0) (below_lower (top + 1) c.args.number c.args.amount (meaning c.args.self.now.sides) c.args.self.now.below);
     }
 
-pub returns-then-rest-eq0 : goal.returns-then-rest-eq0
-returns-then-rest-eq0 c =
-    let before = at-returns-then-rest-eq0 c in
-    record {
-      answer = sym (ap (can_take c.args.amount) (under before.After-at-order) ∙ (taken before.In-Some-after_take).0);
-      after = (gone before.After-remove).0;
-      room = c.remove.ensures.room;
-    }
+pub returns-then-rest-eq0-clause-answer : goal.returns-then-rest-eq0-clause-answer
+returns-then-rest-eq0-clause-answer c =
+    let before = at-returns-then-rest-eq0-clause-answer c in
+    sym (ap (can_take c.args.amount) (under before.After-at-order) ∙ (taken before.In-Some-after_take).0)
+
+pub returns-then-rest-eq0-clause-after : goal.returns-then-rest-eq0-clause-after
+returns-then-rest-eq0-clause-after c = (gone (at-returns-then-rest-eq0-clause-after c).After-remove).0
 
 less : (c : goal.After-replace) → Becomes c.replace.new.self (lower c.args.number c.args.amount (meaning c.args.self.now.sides))
 less c =
     lessened c.args.self.now.sides c.args.number c.in-Some.at c.at-order.result (here (at-invariant_of-self-2 c).After-at-order) c.replace.new.self c.args.amount c.in-Some-after_take.rest (taken (at-invariant_of-self-2 c).In-Some-after_take).1
     c.if-rest-eq0.false
-    c.replace.ensures.after
+    c.replace.ensures
 
 pub invariant_of-self-2 : goal.invariant_of-self-2
 invariant_of-self-2 c =
@@ -74,11 +69,10 @@ invariant_of-self-2 c =
       below = subst (λ os. all_below os (top + 1) ≡ true) (sym (less c).0) (below_lower (top + 1) c.args.number c.args.amount (meaning c.args.self.now.sides) c.args.self.now.below);
     }
 
-pub returns : goal.returns
-returns c =
-    let before = at-returns c in
-    record {
-      answer = sym (ap (can_take c.args.amount) (under before.After-at-order) ∙ (taken before.In-Some-after_take).0);
-      after = (less before.After-replace).0;
-      room = c.replace.ensures.room;
-    }
+pub returns-clause-answer : goal.returns-clause-answer
+returns-clause-answer c =
+    let before = at-returns-clause-answer c in
+    sym (ap (can_take c.args.amount) (under before.After-at-order) ∙ (taken before.In-Some-after_take).0)
+
+pub returns-clause-after : goal.returns-clause-after
+returns-clause-after c = (less (at-returns-clause-after c).After-replace).0

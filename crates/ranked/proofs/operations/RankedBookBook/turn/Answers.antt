@@ -1,4 +1,4 @@
-use Rattle.std.proofs.Common.{◌≡◌, ◌+◌, true, Some, sym, refl, ap, ◌∙◌, subst}
+use Rattle.std.proofs.Common.{◌≡◌, ◌+◌, true, Some, sym, ap, ◌∙◌, subst}
 use Rattle.std.proofs.lemmas.Bool.{and_parts}
 use Rattle.model.specs.declared.types.OrderPrice.TheVariants.{Limit}
 use Rattle.model.specs.Numbers.{max_price, in_range}
@@ -12,7 +12,7 @@ use Rattle.ranked.proofs.Outcomes.{turned}
 use Rattle.ranked.proofs.Replies.{some_if, none_if}
 use Rattle.ranked.proofs.Tops.{below_turn}
 use Rattle.ranked.proofs.operations.RankedBookBook.turn.Goals as goal
-use Rattle.ranked.proofs.operations.RankedBookBook.turn.Goals.{at-returns-in_default-after_turn, at-invariant_of-self, at-returns, After-at-order, In-Some-after_turn, After-enter}
+use Rattle.ranked.proofs.operations.RankedBookBook.turn.Goals.{at-returns-in_default-after_turn-clause-answer, at-invariant_of-self, at-returns-clause-answer, at-returns-clause-after, After-at-order, In-Some-after_turn, After-enter}
 
 -- the order that was found
 here : (c : goal.After-at-order) → Stands c.args.self.now.sides c.args.number c.in-Some.at c.at-order.result
@@ -27,18 +27,14 @@ under c = found c.args.self.now.sides c.args.number c.in-Some.at c.at-order.resu
 limited : (c : goal.In-Some-after_turn) → (can_turn c.args.price (Some c.at-order.result) ≡ true) × (c.in-Some-after_turn.limited ≡ with_price c.at-order.result (Limit c.args.price))
 limited c = some_if (can_turn c.args.price (Some c.at-order.result)) c.in-Some-after_turn.limited (with_price c.at-order.result (Limit c.args.price)) c.in-Some-after_turn.ensures
 
-pub returns-in_default : goal.returns-in_default
-returns-in_default c = record { answer = sym (ap (can_turn c.args.price) (missing c.args.self.now.sides c.args.number c.in_default.ensures)); after = refl; room = refl }
+pub returns-in_default-clause-answer : goal.returns-in_default-clause-answer
+returns-in_default-clause-answer c = sym (ap (can_turn c.args.price) (missing c.args.self.now.sides c.args.number c.in_default.ensures))
 
-pub returns-in_default-after_turn : goal.returns-in_default-after_turn
-returns-in_default-after_turn c =
+pub returns-in_default-after_turn-clause-answer : goal.returns-in_default-after_turn-clause-answer
+returns-in_default-after_turn-clause-answer c =
     let x = c.at-order.result in
     let p = c.args.price in
-    record {
-      answer = sym (ap (can_turn p) (under (at-returns-in_default-after_turn c).After-at-order) ∙ none_if (can_turn p (Some x)) (with_price x (Limit p)) c.in_default-after_turn.ensures);
-      after = refl;
-      room = refl;
-    }
+    sym (ap (can_turn p) (under (at-returns-in_default-after_turn-clause-answer c).After-at-order) ∙ none_if (can_turn p (Some x)) (with_price x (Limit p)) c.in_default-after_turn.ensures)
 
 again : (c : goal.After-enter) → Becomes c.enter.new.self (turn c.args.number c.args.price (meaning c.args.self.now.sides))
 again c =
@@ -46,7 +42,7 @@ again c =
     turned c.args.self.now.sides c.args.number c.in-Some.at c.at-order.result (here (at-invariant_of-self c).After-at-order) c.remove.new.self c.enter.new.self c.args.price c.in-Some-after_turn.limited made.1
     (and_parts (is_market c.at-order.result.price) (in_range 1 max_price c.args.price) made.0).1
     c.remove.ensures.after
-    c.enter.ensures.after
+    c.enter.ensures
 
 pub invariant_of-self : goal.invariant_of-self
 invariant_of-self c =
@@ -56,11 +52,10 @@ invariant_of-self c =
       below = subst (λ os. all_below os (top + 1) ≡ true) (sym (again c).0) (below_turn (top + 1) c.args.number c.args.price (meaning c.args.self.now.sides) c.args.self.now.below);
     }
 
-pub returns : goal.returns
-returns c =
-    let before = at-returns c in
-    record {
-      answer = sym (ap (can_turn c.args.price) (under before.After-at-order) ∙ (limited before.In-Some-after_turn).0);
-      after = (again before.After-enter).0;
-      room = c.enter.ensures.room ∙ c.remove.ensures.room;
-    }
+pub returns-clause-answer : goal.returns-clause-answer
+returns-clause-answer c =
+    let before = at-returns-clause-answer c in
+    sym (ap (can_turn c.args.price) (under before.After-at-order) ∙ (limited before.In-Some-after_turn).0)
+
+pub returns-clause-after : goal.returns-clause-after
+returns-clause-after c = (again (at-returns-clause-after c).After-enter).0

@@ -12,5 +12,5 @@ insert-requires-clause-within c =
     let h = c.args.self.now in
     omega (arith, c.rank_of-index.ensures, prefix_len-le-length (λ x. not (before s c.args.order x)) (queue s h), length_queue s h)
 
-pub returns-clause-after : goal.returns-clause-after
-returns-clause-after c = entered c.args.order.side c.args.self.now c.insert.new.self c.rank_of-index.result c.args.order c.rank_of-index.ensures c.insert.ensures.after
+pub returns : goal.returns
+returns c = entered c.args.order.side c.args.self.now c.insert.new.self c.rank_of-index.result c.args.order c.rank_of-index.ensures c.insert.ensures

@@ -10,5 +10,5 @@ returns-clause-after c =
     let s = c.args.at.side in
     let new = c.set_len.ensures in
     let n = c.len-last.ensures in
-    let l : length k.rows.now ≡ length h.rows.now = ap length new.rows ∙ c.remove_row.auto.rows in
-    taken_out s h k c.args.at.index _ _ (omega arith) (omega arith) (record { rows = l; others = new.others }) new.own (ap (view s) new.rows ∙ c.remove_row.ensures)
+    let l : length k.rows.now ≡ length h.rows.now = ap length new.rows ∙ c.move_row.auto.rows in
+    taken_out s h k c.args.at.index _ _ (omega arith) (omega arith) (record { rows = l; others = new.others }) new.own (ap (view s) new.rows ∙ c.move_row.ensures)

@@ -2,5 +2,5 @@ use Rattle.std.proofs.Common.{refl}
 use Rattle.ranked.proofs.Changes.{replaced}
 use Rattle.ranked.proofs.sides.Sides.replace.Goals as goal
 
-pub returns-clause-after : goal.returns-clause-after
-returns-clause-after c = replaced c.args.at.side c.args.self.now _ c.args.at.index c.args.order c.requires (record { rows = c.write_row.auto.rows; others = refl }) refl c.write_row.ensures
+pub returns : goal.returns
+returns c = replaced c.args.at.side c.args.self.now _ c.args.at.index c.args.order c.requires (record { rows = c.write_row.auto.rows; others = refl }) refl c.write_row.ensures

@@ -3,7 +3,7 @@ use Rattle.book.specs.Meaning.{all_below}
 use Rattle.ranked.proofs.Holding.{Becomes}
 use Rattle.ranked.proofs.Outcomes.{empty}
 use Rattle.ranked.proofs.table.RankedBook.new.Goals as goal
-use Rattle.ranked.proofs.table.RankedBook.new.Goals.{at-returns, After-new}
+use Rattle.ranked.proofs.table.RankedBook.new.Goals.{at-returns-clause-empty, After-new}
 
 nothing : (c : goal.After-new) → Becomes c.new.result []
 nothing c = empty c.new.result c.new.ensures.buys c.new.ensures.sells
@@ -14,5 +14,5 @@ invariant_of-result c = record {
   below = ap (λ os. all_below os 1) (nothing c).0;
 }
 
-pub returns : goal.returns
-returns c = record { empty = (nothing (at-returns c).After-new).0; room = c.new.ensures.room }
+pub returns-clause-empty : goal.returns-clause-empty
+returns-clause-empty c = (nothing (at-returns-clause-empty c).After-new).0
