@@ -40,7 +40,7 @@ fn write_side<B: Book>(book: &B, run: &Run, side: Side, points: &mut [Point])
     for turn in 0..run.count {
         let i = place_in_turn(side, run.count, turn);
         let price = run.price_at(i);
-        mark = reach(book, run.settings, side, price, mark);
+        reach(book, run.settings, side, price, &mut mark);
         points[i] = with_volume(side, points[i], price, mark.total);
     }
 }

@@ -15,9 +15,9 @@ loop-turn-init g c =
 
 pub loop-turn-preserved : goal.loop-turn-preserved
 loop-turn-preserved g c = (
-  c.reach-mark.ensures.counted,
+  c.reach.ensures.counted,
   written_more (plain c.args.run.now.settings.now) c.args.side (ranked c.args.side (g.B.Book.orders c.args.book.now)) c.args.run.now.from c.args.points.now c.loop-turn.turn c.loop-turn.mark c.loop-turn.points c.loop-turn.invariant.1 (omega (arith, c.requires, c.loop-turn-test.true))
-      c.loop-turn.auto.points c.place_in_turn-i.result (c.place_in_turn-i.ensures.value ∙ ap (λ n. place_in_turn c.args.side n c.loop-turn.turn) (sym c.requires)) (omega (arith, c.requires, c.place_in_turn-i.ensures.within)) c.price_at-price.result c.price_at-price.ensures c.reach-mark.result c.reach-mark.ensures.reached
+      c.loop-turn.auto.points c.place_in_turn-i.result (c.place_in_turn-i.ensures.value ∙ ap (λ n. place_in_turn c.args.side n c.loop-turn.turn) (sym c.requires)) (omega (arith, c.requires, c.place_in_turn-i.ensures.within)) c.price_at-price.result c.price_at-price.ensures c.reach.new.mark c.reach.ensures.reached
       _ c.with_volume.result c.with_volume.ensures,
 )
 
