@@ -5,8 +5,15 @@ use Rattle.book.specs.Meaning.{Kept}
 use Rattle.arrival.specs.Books.{standing_in as arrived, capacity_of as arrival_room, arrival_kept}
 use Rattle.ranked.specs.Meaning.{orders_in as in_rank, capacity_in as ranked_room}
 use Rattle.ranked.specs.Keeping.{ranked_kept}
+use Rattle.choices.specs.declared.table.Table.{Table}
+use Rattle.choices.specs.declared.table.Table.TheVariants.{Arrival as InArrival, Ranked as InRanked}
 use Rattle.choices.specs.declared.table.TableBook.{TableBook}
 use Rattle.choices.specs.declared.table.TableBook.TheVariants.{Arrival, Ranked}
+
+-- which table it is kept in
+abbrev pub table_of : TableBook → Table
+table_of (Arrival b) = InArrival
+table_of (Ranked b) = InRanked
 
 -- the orders that stand
 abbrev pub standing_in : TableBook → List Order

@@ -1,6 +1,6 @@
 ghost use Rattle.std.specs.Prelude.{◌≡◌, min, [], length};
 ghost use Rattle.book.specs.Meaning.{max_capacity};
-ghost use Rattle.choices.specs.Tables.{standing_in, capacity_of, tables_kept};
+ghost use Rattle.choices.specs.Tables.{table_of, standing_in, capacity_of, tables_kept};
 
 use crate::table::{Table, TableBook};
 use arrival::ArrivalBook;
@@ -12,6 +12,7 @@ impl Table {
     // An empty book in a lent slice, whatever it holds. Its capacity is the slice's length, or 4,096 if that is less.
     // Each table promises this of its own type, and this of either.
     pub fn empty<'a>(self, rows: &'a mut [Order]) -> TableBook<'a>
+        ensures table { table_of result ≡ self }
         ensures empty { standing_in result ≡ [] }
         ensures room { capacity_of result ≡ min (length rows.old) max_capacity }
     {
