@@ -122,9 +122,9 @@ mod link {
 
 /// Makes a session over an empty book, runs the list once and copies all out.
 ///
-/// Gives 0 when done, 1 to 3 when making is refused (nothing is written), 15
-/// when the list is refused (`orders` and `end` show the new session, nothing
-/// else is written), and 99 without memory.
+/// Gives 0 when done, 1 to 3 when making is refused, 15 when the list is refused
+/// (`orders` and `end` show the new session), and 99 without memory. A place
+/// that no call writes keeps what it holds, as far as the engine's types hold it.
 #[cfg(feature = "rattle")]
 pub fn day(
     setup: &Setup,

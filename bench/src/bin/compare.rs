@@ -10,7 +10,7 @@ use std::process::exit;
 
 const USAGE: &str = "compare [lists] [seed] [--plant N] [--only N] [--plain-only] [--count]
   lists         how many lists, 100,000 unless said
-  seed          1 unless said
+  seed          the first number of its draw, 1 unless said
   --plant N     the plain engine errs on purpose, in place 1 to 8
   --only N      only the list with this number
   --plain-only  the plain engine in place of the Rattle one

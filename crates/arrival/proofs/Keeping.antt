@@ -6,16 +6,12 @@ use Rattle.std.proofs.lemmas.Bool.{and_parts, cond_both, ltb-true, leb-false}
 use Rattle.model.specs.declared.types.Order.{Order}
 use Rattle.model.specs.Numbers.{max_number, max_price}
 use Rattle.model.specs.Orders.{Standing, lower, turn}
-use Rattle.model.proofs.Standing.{lower_standing}
+use Rattle.model.proofs.Standing.{lower_standing, turn_standing}
 use Rattle.book.specs.Bounds.{Bounded}
 use Rattle.book.specs.Meaning.{addable, all_below}
 use Rattle.book.specs.Plain.{plain}
 use Rattle.book.specs.declared.standing.StandingOrder.{StandingOrder}
 use Rattle.rows.specs.Rows.{Held}
-
--- no orders
-pub held_none : Held []
-held_none = record { standing = omega arith; bounded = tt }
 
 -- an order behind lower numbers
 standing_behind : (lo hi : ℕ) (os : List Order) (o : Order) → Standing lo os hi → lo < o.number → o.number ≤ hi → 1 ≤ o.left → all_below os o.number ≡ true → Standing lo (os ++ o ∷ []) hi
@@ -71,10 +67,6 @@ pub held_lowered : (n q : ℕ) (os : List Order) → Held os → Held (lower n q
 held_lowered n q os h = record { standing = lower_standing 0 max_number n q os h.standing; bounded = lower_bounded n q os h.bounded }
 
 -- an order gets a limit price
-turn_standing : (lo hi n p : ℕ) (os : List Order) → Standing lo os hi → Standing lo (turn n p os) hi
-turn_standing lo hi n p [] h = h
-turn_standing lo hi n p (o ∷ os) h = cond_both (eqb o.number n) _ _ (λ xs. Standing lo xs hi) (λ _. h) (λ _. (h.0, h.1, turn_standing o.number hi n p os h.2))
-
 turn_bounded : (n p : ℕ) (os : List Order) → 1 ≤ p → p ≤ max_price → AllByRecursion Bounded os → AllByRecursion Bounded (turn n p os)
 turn_bounded n p [] l u h = tt
 turn_bounded n p (o ∷ os) l u h =

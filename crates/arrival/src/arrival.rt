@@ -25,6 +25,7 @@ impl<'a> ArrivalBook<'a> {
     ghost use Rattle.arrival.specs.Books.{standing_in, capacity_of};
 
     // An empty book in a slice, whatever it holds. Its capacity is the slice's length, or 4,096 if that is less.
+    // What it holds when new is said by each table's own `new`: no type can hold a fact of the moment when it is made.
     pub fn new(rows: &'a mut [Order]) -> ArrivalBook<'a>
         ensures empty { standing_in result ≡ [] }
         ensures room { capacity_of result ≡ min (length rows.old) max_capacity }
@@ -35,7 +36,10 @@ impl<'a> ArrivalBook<'a> {
     }
 }
 
-// Much like the ranked table's, but rows lie and move in another way: the questions that both ask are in `rows`.
+// Much like the ranked table's, but rows lie and move in another way. What may be taken from or turned is asked in `rows`;
+// whether an order may be added each table asks of its own rows.
+// `find`, `after` and `next_on` differ in what they look for: a function of the three would take that as a closure,
+// and each of them would still have to prove what it then answers.
 impl<'a> Book for ArrivalBook<'a> {
     ghost use Rattle.arrival.specs.Books.{standing_in, capacity_of, arrival_kept};
 
@@ -104,7 +108,7 @@ impl<'a> Book for ArrivalBook<'a> {
     }
 }
 
-// The standing order of a row that may be there. No conversion: of a row that is not there is none.
+// The standing order of a row that may be there. No `From`: both options are the library's type, and none of this crate.
 fn as_standing(row: Option<Order>) -> Option<StandingOrder>
     ensures { as_plain result ≡ checked row }
 {

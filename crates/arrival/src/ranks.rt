@@ -14,7 +14,7 @@ pub(crate) fn nth_in_rank(orders: &[Order], side: Side, n: usize) -> Option<Orde
     ensures { result ≡ place n (ranked side orders.now) }
 {
     let mut at = None;
-    // a loop, and no try_fold: it would answer an option in an option
+    // a loop, and no `try_fold`: that wraps the order of each step in a second option, and takes it off again at the end
     for _ in 0..n {
         at = Some(first_behind(orders, side, at)?);
     }

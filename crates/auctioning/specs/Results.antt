@@ -1,5 +1,5 @@
 -- What the result of a call for a price says.
-use Rattle.std.specs.Prelude.{◌≡◌, ℕ, ◌≤◌, true, List, Some, None, Ok, Err, Option, Result}
+use Rattle.std.specs.Prelude.{◌≡◌, ◌≤◌, true, List, Some, None, Ok, Err, Option, Result}
 use Rattle.model.specs.declared.types.Order.{Order}
 use Rattle.model.specs.declared.types.Point.{Point}
 use Rattle.model.specs.declared.types.Refusal.{Refusal}
@@ -7,16 +7,6 @@ use Rattle.model.specs.Grid.{Settings, on_grid}
 use Rattle.model.specs.Curve.{traded}
 use Rattle.model.specs.Rules.{Rule}
 use Rattle.model.specs.Auction.{call_price}
-
--- a call's result without its point: the outcome of a call answers 0
-abbrev pub without_point : Result (Option Point) Refusal → Result ℕ Refusal
-without_point (Ok x) = Ok 0
-without_point (Err e) = Err e
-
--- the same of a step that answers nothing
-abbrev pub no_answer : Result (Unit {0}) Refusal → Result ℕ Refusal
-no_answer (Ok x) = Ok 0
-no_answer (Err e) = Err e
 
 -- a point at a grid price, at which something trades
 abbrev pub Trades : Settings → Option Point → Type 0

@@ -6,7 +6,7 @@ use Rattle.model.specs.declared.types.Order.{Order}
 use Rattle.model.specs.Numbers.{max_price, max_member, max_quantity, max_number, in_range}
 use Rattle.model.specs.Trading.{limit}
 
--- the limit price, and 1 for a market order
+-- the limit price, and 1 for a market order, so that it is at least 1 of every order in bounds
 abbrev pub floor : OrderPrice → ℕ
 floor Market = 1
 floor (Limit p) = p

@@ -62,7 +62,7 @@ fn price_in_bounds(price: OrderPrice) -> bool
     }
 }
 
-// And its contents.
+// The contents of a standing order, as a plain order.
 impl From<StandingOrder> for Order {
     ghost from_gives = { λ standing order. order ≡ plain standing };
 

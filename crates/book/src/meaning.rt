@@ -14,7 +14,7 @@ pub const MAX_CAPACITY: usize = 4_096;
 
 // A book is known by what stands in it and by its capacity, which never changes. Refusals and questions leave what stands as it was.
 // That the capacity stays is said of each change: no type can hold a fact of a book before and after.
-// A change answers whether it was made, as a set's does: there is nothing more to say of one that was not.
+// A change answers whether it was made, and not which of its conditions failed: no caller asks for that.
 pub trait Book {
     // the standing orders, ascending by number
     ghost orders: { Self → List Order };

@@ -11,7 +11,7 @@ pub(crate) fn lower_numbered(
 ) -> Option<StandingOrder>
     ensures { as_plain result ≡ lower_numbered (as_plain a) (as_plain b) }
 {
-    // a match, and no min_by_key over both: it is as short, and shows that of two with one number the first stays
+    // a match by what is there, as the definition has it: `min_by_key` over both is shorter, and hides that of two with one number the first stays
     match (a, b) {
         (None, _) => b,
         (_, None) => a,

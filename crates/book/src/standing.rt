@@ -4,7 +4,7 @@ ghost use Rattle.book.specs.Bounds.{floor};
 
 use model::{OrderPrice, Side};
 
-// An order as a book holds it. One with other contents cannot exist; one with nothing left can, and no book adds it.
+// An order as a book holds it. One with contents out of bounds cannot exist; one with nothing left can, and no book adds it.
 // The fields of an order again, and no order within: readers name them, and would name one step more each time.
 #[derive(Clone, Copy, Debug, PartialEq, Eq)]
 pub struct StandingOrder {

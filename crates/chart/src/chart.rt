@@ -3,6 +3,7 @@ use std::fmt;
 
 // A curve as a table, so many columns in, with a bar for what trades (#) and for what is left over (-), a mark for every 5.
 // Neighbouring grid prices with the same demand and supply share a row.
+// No `==` and no `Debug`: a chart is made to be shown, and not kept.
 #[derive(Clone, Copy)]
 pub struct Chart<'a> {
     pub points: &'a [Point],
@@ -24,18 +25,12 @@ impl fmt::Display for Chart<'_> {
             let demand = last.demand;
             let supply = last.supply;
             let traded = last.traded();
-            let shared = Bar {
-                mark: '#',
-                quantity: traded,
-            };
-            let over = Bar {
-                mark: '-',
-                quantity: last.surplus(),
-            };
+            let shared = marks(traded);
+            let over = marks(last.surplus());
             writeln!(
                 f,
-                "{:indent$}{from:>4} - {to:>3} {demand:>7} {supply:>7} {traded:>7}  {shared}{over}",
-                ""
+                "{:indent$}{from:>4} - {to:>3} {demand:>7} {supply:>7} {traded:>7}  {:#<shared$}{:-<over$}",
+                "", "", ""
             )?;
         }
         Ok(())
@@ -43,18 +38,6 @@ impl fmt::Display for Chart<'_> {
 }
 
 // A mark for every 5, and at most 40.
-#[derive(Clone, Copy)]
-struct Bar {
-    mark: char,
-    quantity: u64,
-}
-
-impl fmt::Display for Bar {
-    fn fmt<W: fmt::Write>(&self, f: &mut fmt::Formatter<W>) -> fmt::Result {
-        // one mark after another: to repeat a text would allocate it
-        for _ in 0..(self.quantity / 5).min(40) {
-            f.write_char(self.mark)?;
-        }
-        Ok(())
-    }
+fn marks(quantity: u64) -> usize {
+    (quantity / 5).min(40) as usize
 }

@@ -10,7 +10,7 @@ use ranked::RankedBook;
 
 impl Table {
     // An empty book in a lent slice, whatever it holds. Its capacity is the slice's length, or 4,096 if that is less.
-    // Each table promises this of its own type, and this of either.
+    // What a new table holds is said here and by each table's own `new`: no type can hold a fact of the moment when it is made.
     pub fn empty<'a>(self, rows: &'a mut [Order]) -> TableBook<'a>
         ensures table { table_of result ≡ self }
         ensures empty { standing_in result ≡ [] }

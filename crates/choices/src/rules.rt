@@ -5,7 +5,7 @@ use model::Point;
 use pricing::{BALANCED, BestEnds, Nearest, PriceRule};
 
 // Which rule finds a price below most traded: the nearest to the indicative price, or least surplus and then the middle.
-// An arm for each in each method, as for the tables.
+// An arm for each in each method: the rules are two types, and a library may not hand out a `dyn`.
 #[derive(Clone, Copy, Debug, PartialEq, Eq)]
 pub enum Rule {
     Nearest,

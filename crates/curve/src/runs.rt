@@ -36,7 +36,8 @@ fn write_side<B: Book>(book: &B, run: &Run, side: Side, points: &mut [Point])
         next: first_active(book, run.settings, side, 0),
         total: 0,
     };
-    // by index, since the two sides go through the places in opposite order: an iterator that goes both ways would be a type with its laws
+    // by index, since the two sides go through the places in opposite order: `iter_mut` and its `rev` are two types,
+    // and to loop over either takes one loop for each side, or a function that promises this of any iterator of places
     for turn in 0..run.count {
         let i = place_in_turn(side, run.count, turn);
         let price = run.price_at(i);

@@ -1,6 +1,7 @@
 use model::{Call, Condition, Entry, OrderPrice, Side};
 
-// An order as a call of a list. The test has words of its own, for one member.
+// An order as a call of a list. The test has words of its own, for one member: words for both would be public functions
+// of a library, each with a contract. The fields of an entry stand one by one: these functions are there to make one.
 pub(crate) fn order(
     member: u32,
     side: Side,

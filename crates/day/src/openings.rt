@@ -5,7 +5,7 @@ use chart::Chart;
 use grid::Terms;
 use model::{Call, Entry, Order};
 use pricing::{BALANCED, Nearest, PriceRule};
-use samples::{BOOKS, BY_BALANCED, BY_NEAREST, Sample, TERMS};
+use samples::{BOOKS, BY_BALANCED, BY_NEAREST, FIRST_LISTING, Sample, TERMS, UNLISTED};
 use std::alloc::AllocError;
 
 // The opening prices of some small books under both rules.
@@ -18,20 +18,12 @@ pub(crate) fn show_openings(page: &mut Page) -> Result<(), AllocError> {
     for Sample { title, orders } in BOOKS {
         show_opening(page, title, TERMS, orders)?;
     }
-    let unlisted = Terms {
-        indicative: 0,
-        ..TERMS
-    };
-    show_opening(
-        page,
-        "A first listing without an indicative price",
-        unlisted,
-        &[],
-    )
+    show_opening(page, FIRST_LISTING, UNLISTED, &[])
 }
 
 // Some orders, their curve, and what an auction of them comes to under both rules.
-// A page of its own beside that of `opening`, which counts without a book.
+// A page of its own beside that of `opening`: there `preview` finds the price of a slice of orders,
+// here a session runs them as a list, and its last answer and its end tell the price.
 fn show_opening(
     page: &mut Page,
     title: &str,
@@ -76,6 +68,7 @@ fn open<R: PriceRule + Drop>(
 }
 
 // What the auction traded, the last call of its list, and the reference price after it.
+// `opening` writes this line from a point, or a fault; here it is from an answer and an end, or a refusal: only the format is the same.
 fn show_price(page: &mut Page, rule: &str, listed: &Listed) -> Result<(), AllocError> {
     let last = listed.answers.last();
     let traded = last.map(|answer| answer.answer).filter(|n| *n > 0);

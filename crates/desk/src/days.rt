@@ -13,7 +13,7 @@ use session::{Session, run};
 
 // Trades a whole day: makes a session over a book and a rule, and runs a list of calls on it.
 // It is refused where the session cannot be made, or where there are too few places for answers.
-// Seven parameters: what a session is made of, its list, and what it is lent, each promised by itself.
+// Seven parameters: what a session is made of, its list, and what it is lent. A struct of any of them would be made for this one call.
 pub fn trade_day<B: Book + Drop, R: PriceRule + Drop>(
     terms: Terms,
     book: B,

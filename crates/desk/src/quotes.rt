@@ -3,7 +3,7 @@ ghost use Rattle.desk.specs.Quotes.{quote};
 
 use session::CalledPrice;
 
-// A price with its quantity, as members are shown it.
+// A price with its quantity, as members are shown it. The two fields of a token, and no token within: a quote has copies, and a token has none.
 #[derive(Clone, Copy, Debug, PartialEq, Eq)]
 pub struct Quote {
     pub price: u32,

@@ -1,7 +1,7 @@
 ghost use Rattle.std.specs.Prelude.{◌≡◌, ◌<◌, length};
 ghost use Rattle.model.specs.Calls.{scratch_after, call as call_outcome, strike as strike_outcome};
-ghost use Rattle.model.specs.Views.{Came};
-ghost use Rattle.session.specs.Tokens.{without_token, Told, Spent};
+ghost use Rattle.model.specs.Views.{Came, done_or_refused};
+ghost use Rattle.session.specs.Tokens.{Told, Spent};
 ghost use Rattle.session.specs.Views.{state};
 ghost use Rattle.desk.specs.Quotes.{board_after, quantity_of, StruckAt};
 
@@ -19,7 +19,7 @@ pub fn call_shown<B: Book, R: PriceRule>(
     tape: &mut [TapeRecord],
     scratch: &mut [Point],
 ) -> Result<Option<CalledPrice>, Refusal>
-    ensures came { Came (call_outcome (R.rule session.old.rule.below) (state B.orders B.capacity session.old) (length tape.old) (length scratch.old)) (without_token result) (state B.orders B.capacity session.new) tape.old session.old.day.used tape.new }
+    ensures came { Came (call_outcome (R.rule session.old.rule.below) (state B.orders B.capacity session.old) (length tape.old) (length scratch.old)) (done_or_refused result) (state B.orders B.capacity session.new) tape.old session.old.day.used tape.new }
     ensures board { board.new ≡ board_after board.old result }
     ensures scratch { scratch.new ≡ scratch_after (state B.orders B.capacity session.old) scratch.old }
     ensures token { Told (R.rule session.old.rule.below) (state B.orders B.capacity session.old) (state B.orders B.capacity session.new) result }

@@ -1,6 +1,7 @@
 use model::{OrderPrice, Phase, Reason};
 
 // What becomes of what remains of an order: it stands at some price, it is withdrawn, or nothing remains.
+// An enum, and no closure that does it: definitions and counts read it before anything is done.
 #[derive(Clone, Copy, Debug, PartialEq, Eq)]
 pub(crate) enum Fate {
     Stands(OrderPrice),
@@ -8,9 +9,10 @@ pub(crate) enum Fate {
     Traded,
 }
 
-// The counts of a plan again, and no plan within: an order that trades nothing has none.
 // What an order does once it is accepted: how many fills it has, how many standing orders they use up,
 // what remains of it and what becomes of that, and the phase after it.
+// The counts of a plan stand here again, and no plan is held: before trading there is none,
+// and a fill-or-kill order that cannot trade whole does not follow its own.
 #[derive(Clone, Copy, Debug, PartialEq, Eq)]
 pub(crate) struct Course {
     pub fills: usize,

@@ -11,7 +11,9 @@ use tape::Tape;
 use withdrawing::{withdraw_all, withdraw_one};
 
 // Withdraws all that is left of a member's order, and answers it.
+// Member and number are two parameters, here and in the session, as the definition's withdrawal has them: a struct would be taken apart for it.
 // Book, day and tape are three parameters, here and below: the first two are lent by a session, and the third by its caller.
+// A struct of them would be made for one call, and taken apart in it: the tape is written from the place that the day tells.
 pub fn withdraw<B: Book>(
     book: &mut B,
     day: &mut DayState,

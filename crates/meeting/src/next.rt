@@ -9,6 +9,7 @@ use model::Entry;
 use walking::{Placed, first_active};
 
 // What an order meets next: an order that it trades with and its place in rank, an interruption, or nothing more.
+// An enum, and no option: an interruption is neither an order nor nothing, and a plan tells the two apart.
 #[derive(Clone, Copy, Debug, PartialEq, Eq)]
 pub(crate) enum Next {
     Trade(Placed),

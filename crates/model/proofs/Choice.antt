@@ -2,24 +2,18 @@
 use Rattle.std.proofs.Common.{◌≡◌, ℕ, Bool, true, false, not, ◌&&◌, ◌||◌, ltb, List, [], ◌∷◌, Some, None, Option, sym, refl, subst, ⊎_elim, arith}
 use Rattle.std.specs.List.{ContainsAt as Has, AllByRecursion}
 use Rattle.std.proofs.ByRecursion.{all-has, All-weaker}
-use Rattle.std.proofs.lemmas.Bool.{and_left, and_right, cases_Bool, cond_both, false≢true, ltb-false, not_from_false, not_from_true, not-true, or_from, or_parts}
+use Rattle.std.proofs.lemmas.Bool.{and_left, and_right, cases_Bool, cond_both, ltb-false, not_from_false, not_from_true, not-true, or_from, or_parts}
 use Rattle.std.proofs.lemmas.Bool.Decides.{nat_tests}
 use Rattle.model.specs.Types.{Order, Point}
 use Rattle.model.specs.Grid.{Settings}
-use Rattle.model.specs.Curve.{point, curve, traded, surplus}
-use Rattle.model.specs.Rules.{Rule, nearest, middle, over, most_traded, least_surplus, any, best, nearer, pick, target_among, choose, called}
+use Rattle.model.specs.Curve.{point, curve, traded}
+use Rattle.model.specs.Rules.{Rule, over, most_traded, any, best, nearer, pick, target_among, choose, called}
 use Rattle.model.specs.Auction.{if_trades, call_price}
 use Rattle.model.specs.Lawful.{Lawful}
 use Rattle.model.specs.Making.{Valid}
 use Rattle.model.specs.Allocations.{target_in, FirstPrice, Found}
 use Rattle.model.proofs.Lists.{has_here, has_there, has_none, has_cases, all_from_has, has_kept, kept_has}
 use Rattle.model.proofs.GridPrices.{curve_has, has_curve, curve_not_empty}
-
-pub nearest_lawful : Lawful nearest
-nearest_lawful = record { asymmetric = λ a b h. refl; transitive = λ a b c h. absurd (false≢true h) }
-
-pub middle_lawful : Lawful middle
-middle_lawful = record { asymmetric = λ a b h. refl; transitive = λ a b c h. absurd (false≢true h) }
 
 -- a test over a rule is lawful where the test is
 module _ (first : Point → Point → Bool) (asym : (a b : Point) → first a b ≡ true → first b a ≡ false) (split : (a b c : Point) → first a b ≡ true → (first a c || first c b) ≡ true) (r : Rule) (law : Lawful r) where
@@ -34,9 +28,6 @@ module _ (first : Point → Point → Bool) (asym : (a b : Point) → first a b 
 
 pub most_traded_lawful : (r : Rule) → Lawful r → Lawful (most_traded r)
 most_traded_lawful r law = over_lawful (λ a b. ltb (traded b) (traded a)) (λ a b h. grind (arith, nat_tests)) (λ a b c h. grind (arith, nat_tests)) r law
-
-pub least_surplus_lawful : (r : Rule) → Lawful r → Lawful (least_surplus r)
-least_surplus_lawful r law = over_lawful (λ a b. ltb (surplus a) (surplus b)) (λ a b h. grind (arith, nat_tests)) (λ a b c h. grind (arith, nat_tests)) r law
 
 -- a test that no element passes
 pub any_false : {X : Type 0} (p : X → Bool) (xs : List X) → any p xs ≡ false → AllByRecursion (λ x. p x ≡ false) xs

@@ -22,14 +22,14 @@ pre_opening_is (Called p v) e = absurd (false≢true e)
 pre_opening_is Trading e = absurd (false≢true e)
 pre_opening_is Closed e = absurd (false≢true e)
 
-random_is : (ph : Phase) → is_random ph ≡ true → ph ≡ Random
+pub random_is : (ph : Phase) → is_random ph ≡ true → ph ≡ Random
 random_is PreOpening e = absurd (false≢true e)
 random_is Random e = refl
 random_is (Called p v) e = absurd (false≢true e)
 random_is Trading e = absurd (false≢true e)
 random_is Closed e = absurd (false≢true e)
 
-trading_is : (ph : Phase) → is_trading ph ≡ true → ph ≡ Trading
+pub trading_is : (ph : Phase) → is_trading ph ≡ true → ph ≡ Trading
 trading_is PreOpening e = absurd (false≢true e)
 trading_is Random e = absurd (false≢true e)
 trading_is (Called p v) e = absurd (false≢true e)

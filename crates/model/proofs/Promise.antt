@@ -9,9 +9,8 @@ use Rattle.model.specs.Rules.{Rule}
 use Rattle.model.specs.State.{State, Outcome, ask}
 use Rattle.model.specs.Making.{settings_in_range, indicative_allowed, is_empty, SessionsAreMadeNew}
 use Rattle.model.specs.Run.{step, run, records}
-use Rattle.model.specs.Lawful.{Lawful, RulesAreLawful}
+use Rattle.model.specs.Lawful.{Lawful}
 use Rattle.model.specs.Laws.{each_call, unchanged, in_course, optimal, in_rank, while_trading, TwoParties, TheSessionKeepsItsLaws}
-use Rattle.model.proofs.Choice.{nearest_lawful, middle_lawful, most_traded_lawful, least_surplus_lawful}
 use Rattle.model.proofs.Sound.{ask_yes, Sound, new_sound}
 use Rattle.model.proofs.Conserved.{step_sound, run_accounted}
 use Rattle.model.proofs.Trading.{step_uncrossed}
@@ -89,6 +88,3 @@ sessions_are_made_new g last os capacity z =
     no_order : (os : List Order) → is_empty os ≡ true → os ≡ []
     no_order [] h = refl
     no_order (o ∷ os) h = absurd (false≢true h)
-
-pub rules_are_lawful : RulesAreLawful
-rules_are_lawful = record { nearest_is = nearest_lawful; middle_is = middle_lawful; most_traded_is = most_traded_lawful; least_surplus_is = least_surplus_lawful }

@@ -10,7 +10,7 @@ use Rattle.model.specs.Rules.{Rule}
 use Rattle.model.specs.Records.{written}
 use Rattle.model.specs.State.{State, is_random, Outcome, ask}
 use Rattle.model.specs.Calls.{call_refusal, scratch_called}
-use Rattle.model.specs.Run.{step, run, after, records, answer_of, scratch_step, scratch_run, Ran}
+use Rattle.model.specs.Run.{step, run, after, records, written_answer, scratch_step, scratch_run, Ran}
 use Rattle.model.proofs.GridEnds.{count_is}
 use Rattle.model.proofs.Sound.{Sound, ask_yes}
 use Rattle.model.proofs.Conserved.{step_sound}
@@ -46,7 +46,7 @@ length_run r T X s (c ∷ cs) = ap suc (length_run r T X (step r T X s c).state 
 -- what is left of the calls, from the session s, gives the whole run
 pub record Sofar (r : Rule) (T X : ℕ) (before s : State) (cs : List Call) (i : ℕ) (a₀ a : List Answer) (t₀ t : List TapeRecord) (x₀ x : List Point) : Type 0 where
   pub state : after s (run r T X s (drop i cs)) ≡ after before (run r T X before cs)
-  pub answers : take i a ++ map answer_of (run r T X s (drop i cs)) ≡ map answer_of (run r T X before cs)
+  pub answers : take i a ++ map written_answer (run r T X s (drop i cs)) ≡ map written_answer (run r T X before cs)
   pub rest : drop i a ≡ drop i a₀
   pub tape : written t s.used (records (run r T X s (drop i cs))) ≡ written t₀ before.used (records (run r T X before cs))
   pub scratch : scratch_run s (drop i cs) (run r T X s (drop i cs)) x ≡ scratch_run before cs (run r T X before cs) x₀
@@ -55,14 +55,11 @@ pub record Sofar (r : Rule) (T X : ℕ) (before s : State) (cs : List Call) (i :
   pub wide : length a ≡ length a₀
   pub sound : Sound s
 
-pub start : (r : Rule) (T X : ℕ) (s : State) (cs : List Call) (a : List Answer) (t : List TapeRecord) (x : List Point) → Sound s → length t ≡ T → length x ≡ X → Sofar r T X s s cs 0 a a t t x x
-start r T X s cs a t x h et ex = record { state = refl; answers = refl; rest = refl; tape = refl; scratch = refl; tape_long = et; scratch_long = ex; wide = refl; sound = h }
-
 module _ {r : Rule} {T X : ℕ} {before s : State} {cs : List Call} {i : ℕ} {a₀ a : List Answer} {t₀ t : List TapeRecord} {x₀ x : List Point} (h : Sofar r T X before s cs i a₀ a t₀ t x₀ x) where
   -- one call more
   pub more : (c : Call) → i < length cs → i < length a → c ≡ get_or cs i c
       → (s' : State) → s' ≡ (step r T X s c).state
-      → (v : Answer) → v ≡ answer_of (step r T X s c)
+      → (v : Answer) → v ≡ written_answer (step r T X s c)
       → (t' : List TapeRecord) → t' ≡ written t s.used (step r T X s c).records
       → (x' : List Point) → x' ≡ scratch_step s c x
       → Sofar r T X before s' cs (i + 1) a₀ (set a i v) t₀ t' x₀ x'
@@ -74,11 +71,11 @@ module _ {r : Rule} {T X : ℕ} {before s : State} {cs : List Call} {i : ℕ} {a
       record {
         state = ap (λ y. after y (run r T X y later)) es ∙ ap (λ l. after s (run r T X s l)) (sym left) ∙ h.state;
         answers =
-            ap (λ y. take (i + 1) (set a i v) ++ map answer_of (run r T X y later)) es
-            ∙ ap (λ l. l ++ map answer_of os) (take_more_set a i v la)
-            ∙ append_assoc (take i a) (v ∷ []) (map answer_of os)
-            ∙ ap (λ w. take i a ++ w ∷ map answer_of os) ev
-            ∙ ap (λ l. take i a ++ map answer_of (run r T X s l)) (sym left)
+            ap (λ y. take (i + 1) (set a i v) ++ map written_answer (run r T X y later)) es
+            ∙ ap (λ l. l ++ map written_answer os) (take_more_set a i v la)
+            ∙ append_assoc (take i a) (v ∷ []) (map written_answer os)
+            ∙ ap (λ w. take i a ++ w ∷ map written_answer os) ev
+            ∙ ap (λ l. take i a ++ map written_answer (run r T X s l)) (sym left)
             ∙ h.answers;
         rest = drop-set-lt (i + 1) a i v (omega arith) ∙ sym (drop-drop 1 i a) ∙ ap (drop 1) h.rest ∙ drop-drop 1 i a₀;
         tape =
@@ -102,7 +99,7 @@ module _ {r : Rule} {T X : ℕ} {before s : State} {cs : List Call} {i : ℕ} {a
   -- the call read with any default
   pub more_at : (d : Call) → i < length cs → i < length a
       → (s' : State) → s' ≡ (step r T X s (get_or cs i d)).state
-      → (v : Answer) → v ≡ answer_of (step r T X s (get_or cs i d))
+      → (v : Answer) → v ≡ written_answer (step r T X s (get_or cs i d))
       → (t' : List TapeRecord) → t' ≡ written t s.used (step r T X s (get_or cs i d)).records
       → (x' : List Point) → x' ≡ scratch_step s (get_or cs i d) x
       → Sofar r T X before s' cs (i + 1) a₀ (set a i v) t₀ t' x₀ x'
@@ -119,8 +116,8 @@ module _ {r : Rule} {T X : ℕ} {before s : State} {cs : List Call} {i : ℕ} {a
         answers =
             sym (take-append-drop i a)
             ∙ ap (λ l. take i a ++ l) h.rest
-            ∙ ap (λ l. l ++ drop i a₀) (sym (append-nil (take i a)) ∙ ap (λ l. take i a ++ map answer_of (run r T X s l)) (sym none) ∙ h.answers)
-            ∙ ap (λ n. map answer_of whole ++ drop n a₀) end;
+            ∙ ap (λ l. l ++ drop i a₀) (sym (append-nil (take i a)) ∙ ap (λ l. take i a ++ map written_answer (run r T X s l)) (sym none) ∙ h.answers)
+            ∙ ap (λ n. map written_answer whole ++ drop n a₀) end;
         tape = ap (λ l. written t s.used (records (run r T X s l))) (sym none) ∙ h.tape;
         scratch = ap (λ l. scratch_run s l (run r T X s l) x) (sym none) ∙ h.scratch;
       }

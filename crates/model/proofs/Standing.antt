@@ -4,7 +4,7 @@ use Rattle.std.specs.List.{AllByRecursion}
 use Rattle.std.proofs.ByRecursion.{All-weaker}
 use Rattle.std.proofs.lemmas.Bool.{cond_both, cond-false, cond-true, eq-eqb, eqb-false, eqb-true, leb-false, leb-true, ne_eqb}
 use Rattle.model.specs.Types.{Order}
-use Rattle.model.specs.Orders.{Standing, find, lower, left_of, left_in}
+use Rattle.model.specs.Orders.{Standing, find, lower, left_of, left_in, turn}
 use Rattle.model.proofs.Ranking.{Distinct}
 
 -- a quantity counts under its own number, and under no other
@@ -159,3 +159,8 @@ standing_distinct lo hi (o ∷ os) h = (
   All-weaker (λ x. o.number < x.number) (λ x. o.number ≡ x.number → ⊥) (λ x l e. omega arith) os (standing_above o.number hi os h.2),
   standing_distinct o.number hi os h.2,
 )
+
+-- a turn keeps the numbers and what is left
+pub turn_standing : (lo hi n p : ℕ) (os : List Order) → Standing lo os hi → Standing lo (turn n p os) hi
+turn_standing lo hi n p [] h = h
+turn_standing lo hi n p (o ∷ os) h = cond_both (eqb o.number n) _ _ (λ l. Standing lo l hi) (λ _. h) (λ _. (h.0, h.1, turn_standing o.number hi n p os h.2))

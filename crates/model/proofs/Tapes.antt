@@ -3,11 +3,6 @@ use Rattle.std.proofs.Common.{◌≡◌, ℕ, ◌+◌, List, [], ◌∷◌, ◌+
 use Rattle.model.specs.Types.{TapeRecord}
 use Rattle.model.specs.Records.{written}
 
--- one record more
-pub written_more : (tape : List TapeRecord) (used : ℕ) (rs : List TapeRecord) (r : TapeRecord) → set (written tape used rs) (used + length rs) r ≡ written tape used (rs ++ r ∷ [])
-written_more tape used [] r = ap (λ n. set tape n r) (add-zero used)
-written_more tape used (x ∷ rs) r = ap (λ n. set (written (set tape used x) (used + 1) rs) n r) (omega arith) ∙ written_more (set tape used x) (used + 1) rs r
-
 -- some records, and then others
 pub written_append : (tape : List TapeRecord) (used : ℕ) (rs qs : List TapeRecord) → written (written tape used rs) (used + length rs) qs ≡ written tape used (rs ++ qs)
 written_append tape used [] qs = ap (λ n. written tape n qs) (add-zero used)

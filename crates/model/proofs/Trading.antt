@@ -23,8 +23,9 @@ use Rattle.model.proofs.Standing.{standing_alive}
 use Rattle.model.proofs.Choice.{call_price_found}
 use Rattle.model.proofs.Fills.{filled_of, fills_standing, Done, meet_done}
 use Rattle.model.proofs.Sound.{unless_both, enter_cases, auction_cases, Sound}
-use Rattle.model.proofs.Uncrossing.{Left, fills_leave, uncrossed_left, uncrossed_lower, UncrossedAfter, ShortOf, uncrossed_push, not_trading, phase_of_trading, uncrossed_in_trading, trading_when_uncrossed}
+use Rattle.model.proofs.Uncrossing.{Left, fills_leave, uncrossed_left, uncrossed_lower, UncrossedAfter, ShortOf, uncrossed_push, not_trading, uncrossed_in_trading, trading_when_uncrossed}
 use Rattle.model.proofs.Striking.{struck_uncrossed, unpriced_uncrossed}
+use Rattle.model.proofs.Course.{trading_is}
 
 -- where something remains and nothing interrupts, what stands active of the other side after the fills is not allowed
 not_allowed : (g : Settings) (lo hi : ℕ) (s : Side) (p : OrderPrice) (fs : List Fill) (os : List Order) → Standing lo os hi
@@ -130,7 +131,7 @@ module _ (s : State) (e : Entry) (sound : Sound s) where
   accepted_uncrossed : while_trading s.phase s → UncrossedAfter (accepted s e)
   accepted_uncrossed law =
       cond_both (is_trading s.phase) _ _ UncrossedAfter
-      (λ t. let ph = phase_of_trading s.phase t in
+      (λ t. let ph = trading_is s.phase t in
       let clear = uncrossed_in_trading s.phase s ph law in
       cond_both (active s.settings e.price) _ _ UncrossedAfter (λ a. active_uncrossed e.condition clear) (λ a. inactive_uncrossed e.condition ph clear a))
       (λ t. not_trading s.phase (stood s e).state t)
@@ -144,7 +145,7 @@ module _ (s : State) (h : Sound s) (law : while_trading s.phase s) where
     where
       go : (is_trading s.phase ≡ true) ⊎ (is_trading s.phase ≡ false) → while_trading s.phase (withdrawn s n).state
       go (inl t) =
-          let ph = phase_of_trading s.phase t in
+          let ph = trading_is s.phase t in
           trading_when_uncrossed s.phase (withdrawn s n).state ph (uncrossed_lower s.settings n (left_of (find n s.orders)) 0 s.last s.orders h.standing (uncrossed_in_trading s.phase s ph law))
       go (inr f) = not_trading s.phase (withdrawn s n).state f
 

@@ -35,7 +35,7 @@ paired ts ss v = record { trades = ts; sells = ss; volume = v }
 abbrev pub add_trade : TapeRecord → Paired → Paired
 add_trade t x = paired (t ∷ x.trades) x.sells x.volume
 
--- one buy takes the sells in rank, each trade as large as both and the open volume permit
+-- at price p the buy n, of which q is left, takes the sells in rank while v is still to trade, each trade as large as both and v permit
 abbrev pub pair_one : ℕ → ℕ → ℕ → List Order → ℕ → Paired
 pair_one p n q [] v = paired [] [] v
 pair_one p n q (s ∷ ss) v =
@@ -44,7 +44,7 @@ pair_one p n q (s ∷ ss) v =
     (cond (nat_lt t s.left) (paired (Trade n s.number p t ∷ []) (with_left s (s.left - t) ∷ ss) (v - t))
     (add_trade (Trade n s.number p t) (pair_one p n (q - t) ss (v - t))))
 
--- the buys in rank, one after another
+-- at price p the buys in rank, one after another, while v is still to trade
 abbrev pub pair : ℕ → List Order → List Order → ℕ → List TapeRecord
 pair p [] ss v = []
 pair p (b ∷ bs) ss v =

@@ -1,4 +1,4 @@
--- The known outcomes: one table, and one test that all of it holds.
+-- The known outcomes 1 to 10 of the rules: one table, and one test that all of it holds.
 use Rattle.std.specs.Prelude.{ℕ, Bool, true, false, not, ◌&&◌, List, [], ◌∷◌, ◌++◌, ◌==◌}
 use Rattle.model.specs.Types.{Side, Buy, Sell, OrderPrice, Market, Limit, Condition, Plain, FillOrKill, ImmediateOrCancel, Order, Phase, ConditionUnmet, TapeRecord, Trade, Withdrawal, Call, Enter, BeginRandom, Auction}
 use Rattle.model.specs.Numbers.{reason_code}
@@ -85,7 +85,7 @@ left n p q = record { number = n; price = p; left = q }
 abbrev pub balanced : Rule
 balanced = least_surplus middle
 
--- the known outcomes
+-- known outcomes 1 to 10
 abbrev pub table : List Case
 table =
     -- buy 50 at 106, sell 50 at 98: nearest 100, middle 102

@@ -10,7 +10,7 @@ pub record Settings : Type 0 where
   pub absolute : ℕ
   pub static : ℕ
 
--- p lies within the band of w percent about the reference c
+-- p lies within the band of w percent about the reference c; both ends belong to it
 abbrev pub within : ℕ → ℕ → ℕ → Bool
 within w c p = nat_le (c * (100 - w)) (100 * p) && nat_le (100 * p) (c * (100 + w))
 

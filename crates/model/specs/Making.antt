@@ -5,11 +5,11 @@ use Rattle.model.specs.Numbers.{max_tick, max_price, max_band, max_number, in_ra
 use Rattle.model.specs.Grid.{Settings}
 use Rattle.model.specs.State.{State, ask}
 
--- tick, widths and last order number are within their limits
+-- the tick, both bands and the last order number are within their limits
 abbrev pub settings_in_range : Settings → ℕ → Bool
 settings_in_range g last = in_range 1 max_tick g.tick && (in_range 1 max_band g.absolute && (in_range 1 max_band g.static && nat_le last max_number))
 
--- the indicative price is there, and a multiple of the tick
+-- the indicative price is from 1 to the highest price, and a multiple of the tick
 abbrev pub indicative_allowed : Settings → Bool
 indicative_allowed g = in_range 1 max_price g.indicative && g.indicative % g.tick == 0
 

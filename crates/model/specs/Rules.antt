@@ -8,11 +8,11 @@ pub record Rule : Type 0 where
   pub ahead : Point → Point → Bool
   pub target : Point → Point → ℕ → ℕ
 
--- nothing goes ahead, and the target is the indicative price
+-- nothing goes ahead, and the target is twice the indicative price, since targets are doubled prices
 abbrev pub nearest : Rule
 nearest = record { ahead = λ a b. false; target = λ lo hi i. 2 * i }
 
--- nothing goes ahead, and the target is the highest best price where demand exceeds supply at both ends, the lowest where supply exceeds demand at both, else the middle
+-- nothing goes ahead, and the target is twice the highest best price where demand exceeds supply at both ends, twice the lowest where supply exceeds demand at both, else the sum of both, which is twice their middle
 abbrev pub middle : Rule
 middle = record {
   ahead = λ a b. false;

@@ -39,13 +39,13 @@ list_refusal places cs = ask (nat_le (length cs) places) AnswersTooShort no_refu
 abbrev pub calls_run : ℕ → List Call → List Call
 calls_run places cs = cond (nat_le (length cs) places) cs []
 
--- the answer of an outcome
-abbrev pub answer_of : Outcome → Answer
-answer_of o = record { refusal = o.refusal; answer = o.answer }
+-- the answer that a list writes for an outcome
+abbrev pub written_answer : Outcome → Answer
+written_answer o = record { refusal = o.refusal; answer = o.answer }
 
 -- the answers after a list: one for each call that ran, and the places beyond as they were
 abbrev pub answers_after : List Answer → List Outcome → List Answer
-answers_after places os = map answer_of os ++ drop (length os) places
+answers_after places os = map written_answer os ++ drop (length os) places
 
 -- the tape after a list
 abbrev pub tape_after : List TapeRecord → State → List Outcome → List TapeRecord
@@ -65,7 +65,7 @@ scratch_run s [] os scratch = scratch
 scratch_run s (c ∷ cs) [] scratch = scratch
 scratch_run s (c ∷ cs) (o ∷ os) scratch = scratch_run o.state cs os (scratch_step s c scratch)
 
--- a list of calls ran from one session to another: the state, the answers, the tape and the scratch before it and after it
+-- a list of calls ran from one session to another: the state, the answers, the tape and the scratch before it and after it; T and X are the lengths of tape and scratch
 pub record Ran (r : Rule) (T X : ℕ) (before s : State) (cs : List Call) (a₀ a : List Answer) (t₀ t : List TapeRecord) (x₀ x : List Point) : Type 0 where
   pub state : s ≡ after before (run r T X before cs)
   pub answers : a ≡ answers_after a₀ (run r T X before cs)

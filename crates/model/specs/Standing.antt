@@ -1,4 +1,4 @@
--- That orders stand can be a fact of a struct.
+-- A lemma among the definitions: a struct can keep it as a ghost field that orders stand.
 use Rattle.std.specs.Prelude.{ℕ, List, [], ◌∷◌}
 use Rattle.std.specs.Coded.{le_prop}
 use Rattle.model.specs.Types.{Order}

@@ -4,7 +4,7 @@ use Rattle.model.specs.Types.{Order, Phase, PreOpening, Random, Called, Trading,
 use Rattle.model.specs.Numbers.{max_places, code, no_refusal}
 use Rattle.model.specs.Grid.{Settings}
 
--- the reference price is the one that the static band lies about; then the last order number given, the tape places used, the standing orders by number and the book's capacity
+-- settings and phase; the reference price, about which the static band lies; the last order number given; how many tape places are used; the standing orders by number; the book's capacity
 pub record State : Type 0 where
   pub settings : Settings
   pub phase : Phase
@@ -91,7 +91,7 @@ abbrev pub unless : ℕ → State → Outcome → Outcome
 unless zero s o = o
 unless (suc n) s o = refuse (suc n) s
 
--- the free places of a tape of this length
+-- the free places of a tape of this length, of which at most 65,536 are used; none where it has fewer than are used
 abbrev pub free : State → ℕ → ℕ
 free s tape = min tape max_places - s.used
 

@@ -31,7 +31,7 @@ met fs r b = record { fills = fs; remaining = r; interrupted = b }
 abbrev pub add_fill : Fill → Met → Met
 add_fill f m = met (f ∷ m.fills) m.remaining m.interrupted
 
--- the order takes the opposite orders in rank while something remains of it and its price allows theirs; at a price outside the static band trading is interrupted
+-- an order of side s and price p takes the opposite orders in rank while something remains of it and its price allows theirs; at a price outside the static band trading is interrupted
 abbrev pub meet : (ℕ → Bool) → Side → OrderPrice → ℕ → List Order → Met
 meet in_band s p remaining [] = met [] remaining false
 meet in_band s p remaining (o ∷ os) =

@@ -24,6 +24,11 @@ answer_of (Err r) = 0
 abbrev pub shown : Result ℕ Refusal → Answer
 shown r = record { refusal = refusal_of r; answer = answer_of r }
 
+-- a result without its value: an outcome has the answer 0 where a call shows something else
+abbrev pub done_or_refused : {A : Type 0} → Result A Refusal → Result ℕ Refusal
+done_or_refused (Ok a) = Ok 0
+done_or_refused (Err r) = Err r
+
 -- a call came to the outcome o: its result, the session after it, and the tape before and after it, of which so many places were used
 pub record Came (o : Outcome) (r : Result ℕ Refusal) (s : State) (before : List TapeRecord) (used : ℕ) (after : List TapeRecord) : Type 0 where
   pub refusal : refusal_of r ≡ o.refusal

@@ -20,7 +20,7 @@ impl From<Result<u64, Refusal>> for Answer {
     }
 }
 
-// And read again: an answer of any numbers may be lent.
+// The result of an answer. It can fail, since an answer may hold any numbers.
 impl TryFrom<Answer> for Result<u64, Refusal> {
     type Error = UnknownNumber;
 

@@ -1,6 +1,7 @@
 use crate::types::{Answer, Order, OrderPrice, Point, Reason, Side, TapeRecord};
 
-// Constants, and no Default: a blank order or record means nothing, and a default would offer it as a value.
+// Constants, and no Default: they fill memory before it is used, and a default would offer them as values.
+// A blank order, point or record is none that a session makes, and a blank answer reads as that of a call that was done.
 
 impl Order {
     // What a row of a table may hold before an order stands there.

@@ -3,9 +3,9 @@
 
 mod page;
 
-use grid::{Settings, Terms};
+use grid::Settings;
 use page::{show, show_refusal, show_settings};
-use samples::{BOOKS, Sample, TERMS};
+use samples::{BOOKS, FIRST_LISTING, Sample, TERMS, UNLISTED};
 use std::io;
 
 fn show_books(rt: &HostRuntime, settings: &Settings) -> io::Result<()> {
@@ -23,11 +23,8 @@ fn main(rt: HostRuntime) -> io::Result<()> {
         }
         Err(refusal) => show_refusal(&rt, refusal)?,
     }
-    println!(rt; "A first listing without an indicative price")?;
-    match Settings::try_from(Terms {
-        indicative: 0,
-        ..TERMS
-    }) {
+    println!(rt; "{FIRST_LISTING}")?;
+    match Settings::try_from(UNLISTED) {
         Ok(settings) => show(&rt, "Settings", &settings, &[]),
         Err(refusal) => show_refusal(&rt, refusal),
     }

@@ -21,6 +21,7 @@ pub(crate) fn show_settings(rt: &HostRuntime, settings: &Settings) -> io::Result
 }
 
 // A book on a page: its orders, its curve, and its opening price under both rules.
+// A page of its own beside that of `day`: there a session runs the orders as a list, here `preview` finds the price of a slice of them.
 pub(crate) fn show(
     rt: &HostRuntime,
     title: &str,
@@ -59,7 +60,8 @@ pub(crate) fn show(
     println!(rt)
 }
 
-// By hand: `day` has other words for side and price.
+// No `Display`: an order is a type of `model`, which both programs would then show alike, and `day` has other words for
+// the side. A type of this program around it would serve this one line.
 fn show_order(rt: &HostRuntime, order: Order) -> io::Result<()> {
     let number = order.number;
     let left = order.left;
@@ -73,6 +75,7 @@ fn show_order(rt: &HostRuntime, order: Order) -> io::Result<()> {
     }
 }
 
+// Like the line of `day`, which has an answer and an end in place of a point: only the format is the same.
 fn show_price(rt: &HostRuntime, rule: &str, price: Result<Option<Point>, Fault>) -> io::Result<()> {
     match price {
         Ok(Some(point)) => {

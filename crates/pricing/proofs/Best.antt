@@ -4,10 +4,10 @@ use Rattle.std.specs.List.{ContainsAt as Has, AllByRecursion}
 use Rattle.std.proofs.lemmas.List.Elements.{filter-append}
 use Rattle.std.proofs.ByRecursion.{all-has}
 use Rattle.std.proofs.lemmas.Bool.{cases_Bool, cond-false, cond-true}
-use Rattle.model.specs.declared.Point.{Point}
+use Rattle.model.specs.declared.types.Point.{Point}
 use Rattle.model.specs.Rules.{Rule, any, best}
 use Rattle.model.specs.Lawful.{Lawful}
-use Rattle.model.proofs.Lists.{all_from_has}
+use Rattle.model.proofs.Lists.{all_from_has, kept_none}
 use Rattle.model.proofs.Choice.{Unbeaten, any_false, false_any, unbeaten_tie}
 use Rattle.pricing.specs.Level.{level_with}
 
@@ -15,10 +15,6 @@ use Rattle.pricing.specs.Level.{level_with}
 kept_agree : {X : Type 0} (p q : X → Bool) (xs : List X) → AllByRecursion (λ x. p x ≡ q x) xs → filter p xs ≡ filter q xs
 kept_agree p q [] h = refl
 kept_agree p q (x ∷ xs) h = let e = h.0 in let i = kept_agree p q xs h.1 in cc
-
-kept_none : {X : Type 0} (p : X → Bool) (xs : List X) → AllByRecursion (λ x. p x ≡ false) xs → filter p xs ≡ []
-kept_none p [] h = refl
-kept_none p (x ∷ xs) h = cond-false (p x) (x ∷ filter p xs) (filter p xs) h.0 ∙ kept_none p xs h.1
 
 any_push : {X : Type 0} (p : X → Bool) (xs : List X) (x : X) → any p (xs ++ x ∷ []) ≡ (any p xs || p x)
 any_push p [] x = grind arith

@@ -3,7 +3,7 @@ use Rattle.std.proofs.Common.{◌≡◌, ℕ, false, not, ◌&&◌, ◌||◌, Li
 use Rattle.std.specs.List.{ContainsAt as Has}
 use Rattle.std.proofs.ByRecursion.{all-has}
 use Rattle.std.proofs.lemmas.Bool.Decides.{nat_tests}
-use Rattle.model.specs.declared.Point.{Point}
+use Rattle.model.specs.declared.types.Point.{Point}
 use Rattle.model.specs.Rules.{Rule, best, nearer, choose, called, lowest_of, highest_of}
 use Rattle.model.specs.Lawful.{Lawful}
 use Rattle.model.specs.Allocations.{target_in}

@@ -1,7 +1,7 @@
 -- The nearest of points that come in two parts.
 use Rattle.std.proofs.Common.{◌≡◌, ℕ, cond, not, List, [], ◌∷◌, ◌++◌, Some, Option, sym, refl, ap, ◌∙◌}
 use Rattle.std.proofs.lemmas.List.Elements.{filter-append}
-use Rattle.model.specs.declared.Point.{Point}
+use Rattle.model.specs.declared.types.Point.{Point}
 use Rattle.model.specs.Rules.{Rule, nearer, pick}
 use Rattle.pricing.specs.Level.{level_with, nearest_among, nearest_onward}
 

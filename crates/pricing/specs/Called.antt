@@ -1,7 +1,7 @@
 -- What the called price is, in the market's own words.
 use Rattle.std.specs.Prelude.{◌≡◌, ℕ, ◌*◌, ◌≤◌, false, List}
 use Rattle.std.specs.List.{ContainsAt as Has}
-use Rattle.model.specs.declared.Point.{Point}
+use Rattle.model.specs.declared.types.Point.{Point}
 use Rattle.model.specs.Rules.{Rule, distance}
 use Rattle.model.specs.Allocations.{target_in}
 

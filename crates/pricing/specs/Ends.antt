@@ -1,6 +1,6 @@
 -- The lowest and the highest best point, all at once and point by point.
 use Rattle.std.specs.Prelude.{cond, List, [], ◌∷◌, fold, Some, None, Option, nat_lt}
-use Rattle.model.specs.declared.Point.{Point}
+use Rattle.model.specs.declared.types.Point.{Point}
 use Rattle.model.specs.Rules.{Rule, best, lowest_of, highest_of}
 use Rattle.pricing.specs.declared.choice.BestEnds.{BestEnds}
 

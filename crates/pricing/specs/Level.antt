@@ -1,6 +1,6 @@
 -- The points as good as a best one, and the nearest of them to a target.
 use Rattle.std.specs.Prelude.{ℕ, cond, not, List, [], ◌∷◌, fold, Some, None, filter, Option}
-use Rattle.model.specs.declared.Point.{Point}
+use Rattle.model.specs.declared.types.Point.{Point}
 use Rattle.model.specs.Rules.{Rule, nearer, pick}
 
 -- the points that b does not go ahead of

@@ -5,7 +5,8 @@ use crate::choice::BestEnds;
 use crate::rule::PriceRule;
 use model::Point;
 
-// Two rules at the bottom that differ in the target; that no point goes ahead is written in both, since a rule of the trait says what it answers.
+// Two rules at the bottom that differ in the target. That no point goes ahead is written in both: as a default of the trait
+// it would have to meet the trait's promise for every rule, and some rules put a point ahead.
 
 // No point goes ahead, and the target is the indicative price.
 #[derive(Clone, Copy, Debug, PartialEq, Eq)]

@@ -1,5 +1,5 @@
 ghost use Rattle.std.specs.Prelude.{◌≡◌, List, [], ◌++◌, Some, MatchOption};
-ghost use Rattle.model.specs.declared.Point.{Point};
+ghost use Rattle.model.specs.declared.types.Point.{Point};
 ghost use Rattle.model.specs.Rules.{nearer, called};
 ghost use Rattle.pricing.specs.Ends.{alone, widened, ends, ends_with, ends_onward};
 ghost use Rattle.pricing.specs.Level.{level_with, nearest_among, nearest_with, nearest_onward};
@@ -81,7 +81,7 @@ fn nearer(a: Point, b: Point, target: u64) -> bool
 {
     let x = (2 * a.price as u64).abs_diff(target);
     let y = (2 * b.price as u64).abs_diff(target);
-    // no order of pairs: the nearer goes first, and then the higher
+    // no order of pairs: a small distance and a high price are better, so the pairs would be crossed, `(x, b.price) < (y, a.price)`
     x < y || (x == y && a.price > b.price)
 }
 

@@ -7,7 +7,7 @@ use crate::rule::PriceRule;
 use model::Point;
 
 // Two layers, and no generic one over a criterion: each criterion would be a type with its definition, as long as a layer.
-// No order of pairs either: the rule below is asked only where the points are equal.
+// No order of pairs either: the rule below is asked only where the points are equal. The target is that of the rule below, in both.
 
 // The point that trades more goes ahead; points that trade as much go to the rule below.
 #[derive(Clone, Copy, Debug, PartialEq, Eq)]

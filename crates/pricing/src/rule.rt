@@ -1,5 +1,5 @@
 ghost use Rattle.std.specs.Prelude.{◌≡◌, ℕ, ◌≤◌, true, false, ◌||◌};
-ghost use Rattle.model.specs.declared.Point.{Point};
+ghost use Rattle.model.specs.declared.types.Point.{Point};
 ghost use Rattle.model.specs.Numbers.{max_price};
 ghost use Rattle.model.specs.Rules.{Rule};
 

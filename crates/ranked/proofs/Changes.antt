@@ -27,11 +27,6 @@ pub free_of : (s : Side) (h : Sides) → HasRoom h → Room s h (count_of s h + 
 free_of Buy h f = omega arith
 free_of Sell h f = omega arith
 
--- and back
-pub free_by : (s : Side) (h : Sides) → Room s h (count_of s h + 1) → HasRoom h
-free_by Buy h f = omega arith
-free_by Sell h f = omega arith
-
 -- a queue is as long as its side has orders
 pub length_queue : (s : Side) (h : Sides) → length (queue s h) ≡ count_of s h
 unfolding queue

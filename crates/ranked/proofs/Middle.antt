@@ -1,5 +1,5 @@
 -- One order in the middle of a list: what is left once it is lowered, turned or taken out.
-use Rattle.std.proofs.Common.{◌≡◌, ℕ, zero, suc, ◌-◌, ◌<◌, ◌≤◌, cond, eqb, ltb, List, [], ◌∷◌, ◌++◌, length, get_or, take, drop, set, sym, refl, ap, ◌∙◌, subst, arith, drop-cons}
+use Rattle.std.proofs.Common.{◌≡◌, ℕ, zero, suc, ◌-◌, ◌<◌, ◌≤◌, cond, ltb, List, [], ◌∷◌, ◌++◌, length, get_or, take, drop, set, sym, refl, ap, ◌∙◌, subst, arith, drop-cons}
 use Rattle.std.specs.List.{ContainsAt as Has, remove}
 use Rattle.std.proofs.ByRecursion.{All-get_or, All-weaker}
 use Rattle.std.proofs.lemmas.List.{take-append-drop}
@@ -31,11 +31,6 @@ module _ (n : ℕ) (x : Order) (rest : List Order) (e : x.number ≡ n) where
   pub turn_middle : (p : ℕ) (front : List Order) → Lacks n front → turn n p (front ++ x ∷ rest) ≡ front ++ with_price x (Limit p) ∷ rest
   turn_middle p [] h = cond-true _ _ _ (eq-eqb x.number n e)
   turn_middle p (o ∷ os) h = cond-false _ _ _ (ne_eqb o.number n (λ k. h.0 (sym k))) ∙ ap (λ t. o ∷ t) (turn_middle p os h.1)
-
--- a turn keeps the numbers and what is left
-pub turn_standing : (lo hi n p : ℕ) (os : List Order) → Standing lo os hi → Standing lo (turn n p os) hi
-turn_standing lo hi n p [] h = h
-turn_standing lo hi n p (o ∷ os) h = cond_both (eqb o.number n) _ _ (λ l. Standing lo l hi) (λ _. h) (λ _. (h.0, h.1, turn_standing o.number hi n p os h.2))
 
 -- an order that was inserted, removed again by its index
 pub removed_insert : (s : Side) (x : Order) (xs : List Order) (i : ℕ) (d : Order) → Lacks x.number xs → i < length (insert s x xs) → (get_or (insert s x xs) i d).number ≡ x.number → remove (insert s x xs) i ≡ xs

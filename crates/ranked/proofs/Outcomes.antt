@@ -11,7 +11,7 @@ use Rattle.model.specs.Numbers.{max_number, max_price, in_range}
 use Rattle.model.specs.Orders.{Standing, lower, turn, with_left, with_price}
 use Rattle.model.specs.Rank.{insert, ranked}
 use Rattle.model.proofs.Commuting.{Lacks}
-use Rattle.model.proofs.Standing.{standing_push, standing_wider, lower_standing}
+use Rattle.model.proofs.Standing.{standing_push, standing_wider, lower_standing, turn_standing}
 use Rattle.book.specs.Bounds.{Bounded}
 use Rattle.book.specs.Meaning.{all_below}
 use Rattle.rows.specs.Rows.{blank}
@@ -21,7 +21,7 @@ use Rattle.ranked.specs.InRank.{meaning, InRank}
 use Rattle.ranked.specs.declared.position.Position.{Position}
 use Rattle.ranked.specs.declared.sides.Sides.{Sides}
 use Rattle.ranked.proofs.Found.{Stands, among_ranked}
-use Rattle.ranked.proofs.Middle.{Split, split_at, lower_whole, lower_part, turn_middle, turn_standing}
+use Rattle.ranked.proofs.Middle.{Split, split_at, lower_whole, lower_part, turn_middle}
 use Rattle.ranked.proofs.Holding.{Holds, Becomes, becomes, hold_enter, hold_remove, hold_replace}
 
 -- nothing stands in empty queues

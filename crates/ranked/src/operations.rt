@@ -11,6 +11,7 @@ use rows::{after_take, after_turn};
 
 impl<'a> RankedBook<'a> {
     // An empty book in a lent slice of any length and any contents; at most 4,096 of its rows are used.
+    // What it holds when new is said by each table's own `new`: no type can hold a fact of the moment when it is made.
     pub fn new(rows: &'a mut [Order]) -> RankedBook<'a>
         ensures empty { orders_in result ≡ [] }
         ensures room { capacity_in result ≡ min (length rows.old) max_capacity }

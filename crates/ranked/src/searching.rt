@@ -37,11 +37,12 @@ impl<'a> Sides<'a> {
     pub(crate) fn locate(&self, number: u64) -> Option<Position>
         ensures { Located self.now number result }
     {
-        // the first in rank is the one that trades, so both are looked at before any other
+        // the first in rank is the one that trades: the first sell is looked at before the buys, whose search begins with their first
         let side = Side::Sell;
         if self.is_first(side, number) {
             return Some(Position { side, index: 0 });
         }
+        // an early return, and no `or_else`: the check finds no proof where the second search is a closure
         if let Some(at) = self.locate_on(Side::Buy, number) {
             return Some(at);
         }

@@ -19,6 +19,7 @@ pub record Held (os : List Order) : Type 0 where
   pub standing : Standing 0 os max_number
   pub bounded : AllByRecursion Bounded os
 
+-- there is one way at most in which an order is in bounds
 bounded_prop : (o : Order) → IsProp (Bounded o)
 bounded_prop o p q = λ i. record {
   number_low = le_prop p.number_low q.number_low i;
@@ -31,6 +32,7 @@ bounded_prop o p q = λ i. record {
   left_high = le_prop p.left_high q.left_high i;
 }
 
+-- and in which all elements keep what each keeps in one way at most
 all_prop : {X : Type 0} (P : X → Type 0) → ((x : X) → IsProp (P x)) → (xs : List X) → IsProp (AllByRecursion P xs)
 all_prop P h [] p q = λ i. tt
 all_prop P h (x ∷ xs) p q = λ i. (h x p.0 q.0 i, all_prop P h xs p.1 q.1 i)

@@ -14,12 +14,21 @@ pub const TERMS: Terms = Terms {
     last_number: 0,
 };
 
+// A first listing: the same without an indicative price, and what the programs call it.
+pub const UNLISTED: Terms = Terms {
+    indicative: 0,
+    ..TERMS
+};
+
+pub const FIRST_LISTING: &str = "A first listing without an indicative price";
+
 // What the programs call the two rules.
 pub const BY_NEAREST: &str = "nearest to the indicative price";
 
 pub const BY_BALANCED: &str = "least surplus, then the middle";
 
 // Some orders, in the order in which they come, and what they are there to show.
+// No `==` and no `Debug`: the programs take its fields.
 #[derive(Clone, Copy)]
 pub struct Sample {
     pub title: &'static str,

@@ -1,7 +1,6 @@
 -- An auction as a call for a price, and then its strike or its put-back.
 use Rattle.std.proofs.Common.{◌≡◌, ℕ, zero, suc, ◌+◌, ◌<◌, true, cond, List, length, Some, Ok, Err, Result, is_err, sym, refl, ap, ◌∙◌, subst, add-zero, arith}
 use Rattle.std.proofs.lemmas.Bool.{eq-eqb}
-use Rattle.model.specs.declared.types.Phase.{Phase}
 use Rattle.model.specs.declared.types.Phase.TheVariants.{Random, Called}
 use Rattle.model.specs.declared.types.Point.{Point}
 use Rattle.model.specs.declared.types.Refusal.{Refusal}
@@ -17,6 +16,7 @@ use Rattle.model.specs.Views.{Came}
 use Rattle.model.proofs.Sound.{unless_both}
 use Rattle.session.specs.declared.called.CalledPrice.{CalledPrice}
 use Rattle.session.specs.Tokens.{PricedToken, Spent}
+use Rattle.model.proofs.Course.{random_is}
 
 -- no refusal has the number 0
 code_some : (r : Refusal) → 0 < code r
@@ -28,9 +28,6 @@ unless_done k s o e = rw e refl
 unless_refused : (k : ℕ) (s : State) (o : Outcome) → 0 < k → unless k s o ≡ refuse k s
 unless_refused zero s o l = absurd (omega arith)
 unless_refused (suc n) s o l = refl
-
-random_is : (p : Phase) → is_random p ≡ true → p ≡ Random
-random_is p e = grind arith
 
 -- the price that is called is put back
 put_back_called : (s : State) (p v : ℕ) → s.phase ≡ Called p v → put_back s p v ≡ begun s

@@ -9,11 +9,6 @@ use Rattle.model.specs.State.{State}
 use Rattle.model.specs.Auction.{call_price}
 use Rattle.session.specs.declared.called.CalledPrice.{CalledPrice}
 
--- a call's result without its called price: the outcome of a call answers 0
-abbrev pub without_token : Result (Option CalledPrice) Refusal → Result ℕ Refusal
-without_token (Ok t) = Ok 0
-without_token (Err e) = Err e
-
 -- the called price is that of the point that a call finds, and the session waits for its strike
 abbrev pub PricedToken : Rule → State → State → Option CalledPrice → Type 0
 PricedToken r s s' None = call_price r s.settings s.orders ≡ None

@@ -2,7 +2,7 @@ ghost use Rattle.std.specs.Prelude.{◌≡◌};
 
 // A called price with its quantity. It comes from a call alone and has no copy.
 // A strike or a put-back spends it: its quantity is then 0, and only then may it be let go.
-// Price and quantity are its own fields: a struct of both that a phase or a quote shares would have a copy.
+// Price and quantity are its own fields, as the phase has them: a struct of both within would be one step more in each contract.
 // That it is live is a clause of strike and put-back, and no fact of the type: a spent one is still there until it is let go.
 // That its price stays is said of each of them: no type can hold a fact of a token before and after.
 pub struct CalledPrice {

@@ -2,8 +2,8 @@ ghost use Rattle.std.specs.Prelude.{◌≡◌, ℕ, ◌<◌, true, length, is_ok
 ghost use Rattle.model.specs.declared.types.Phase.TheVariants.{Called};
 ghost use Rattle.model.specs.Numbers.{code};
 ghost use Rattle.model.specs.Calls.{ask_called, scratch_after, call as call_outcome, strike as strike_outcome, put_back as put_back_outcome};
-ghost use Rattle.model.specs.Views.{refusal_of, answer_of, Came};
-ghost use Rattle.session.specs.Tokens.{without_token, Told, Spent};
+ghost use Rattle.model.specs.Views.{refusal_of, answer_of, Came, done_or_refused};
+ghost use Rattle.session.specs.Tokens.{Told, Spent};
 ghost use Rattle.session.specs.Views.{state};
 
 use crate::called::CalledPrice;
@@ -22,7 +22,7 @@ impl<B: Book, R: PriceRule> Session<B, R> {
         tape: &mut [TapeRecord],
         scratch: &mut [Point],
     ) -> Result<Option<CalledPrice>, Refusal>
-        ensures came { Came (call_outcome (R.rule self.old.rule.below) (state B.orders B.capacity self.old) (length tape.old) (length scratch.old)) (without_token result) (state B.orders B.capacity self.new) tape.old self.old.day.used tape.new }
+        ensures came { Came (call_outcome (R.rule self.old.rule.below) (state B.orders B.capacity self.old) (length tape.old) (length scratch.old)) (done_or_refused result) (state B.orders B.capacity self.new) tape.old self.old.day.used tape.new }
         ensures scratch { scratch.new ≡ scratch_after (state B.orders B.capacity self.old) scratch.old }
         ensures token { Told (R.rule self.old.rule.below) (state B.orders B.capacity self.old) (state B.orders B.capacity self.new) result }
         ensures rule { self.new.rule ≡ self.old.rule }

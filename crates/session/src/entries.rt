@@ -31,7 +31,7 @@ impl<B: Book, R: PriceRule> Session<B, R> {
         self.step(Call::Withdraw { member, number }, tape, &mut [])
     }
 
-    // Begins the random period.
+    // Begins the random period. It answers 0, since by the rules every call answers a number.
     pub fn begin_random(&mut self) -> Result<u64, Refusal>
         ensures refusal { refusal_of result ≡ (begin_random_of (state B.orders B.capacity self.old)).refusal }
         ensures answer { answer_of result ≡ 0 }

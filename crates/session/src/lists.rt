@@ -12,7 +12,8 @@ use model::{Answer, Call, Point, Refusal, TapeRecord};
 use pricing::PriceRule;
 
 // Runs a list of calls from first to last, and writes one answer for each. A list with more calls than there are places for answers is refused whole.
-// Answers, tape and scratch are three parameters, as in the other calls: a struct of them would be made for each call, and each is promised by itself.
+// Answers, tape and scratch are three parameters, as tape and scratch are in `call`: a struct of them would be taken apart
+// at each step, which takes tape and scratch alone, and each is promised by itself.
 pub fn run<B: Book, R: PriceRule>(
     session: &mut Session<B, R>,
     calls: &[Call],

@@ -32,7 +32,7 @@ impl<B: Book, R: PriceRule> Session<B, R> {
             day: DayState {
                 phase: Phase::PreOpening,
                 reference: settings.indicative,
-                last: terms.last_number,
+                last: settings.last_number,
                 used: 0,
             },
         })

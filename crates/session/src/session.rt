@@ -11,7 +11,8 @@ use pricing::{MostTraded, PriceRule};
 
 // One security's day over one book, under most traded over one price rule.
 // That the rule stays is said of each call: no type can hold a fact of a session before and after.
-// A called price is on the grid, and something trades at it. No order that stands has a number above the last one given.
+// A called price is on the grid, and something trades at it. The reference price is at least 1.
+// No order that stands has a number above the last one given.
 #[derive(Drop)]
 pub struct Session<B: Book, R: PriceRule> {
     pub(crate) book: B,

@@ -25,7 +25,7 @@ impl<B: Book, R: PriceRule> Session<B, R> {
         ensures scratch { scratch.new ≡ scratch_step (state B.orders B.capacity self.old) call scratch.old }
         ensures rule { self.new.rule ≡ self.old.rule }
     {
-        // An arm for each phase where the call's own fields are bound: the check has no rule for them under `|`.
+        // An arm for each phase where the call's own fields are bound: `(A | B, Call::Enter(entry))` is not covered by the check.
         match (self.day.phase, call) {
             (Phase::PreOpening, Call::Enter(entry)) => self.entered(entry, tape),
             (Phase::Random, Call::Enter(entry)) => self.entered(entry, tape),

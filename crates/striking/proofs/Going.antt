@@ -1,5 +1,5 @@
 -- A pairing on its way: what is still to trade completes what was traded.
-use Rattle.std.proofs.Common.{◌≡◌, ℕ, ◌-◌, ◌<◌, ◌≤◌, List, [], ◌∷◌, ◌++◌, length, Some, None, Option, sym, refl, ap, ◌∙◌, subst, append_assoc, append-nil, length-append, arith}
+use Rattle.std.proofs.Common.{◌≡◌, ℕ, ◌-◌, ◌<◌, ◌≤◌, List, [], ◌∷◌, ◌++◌, length, Some, None, Option, sym, ap, ◌∙◌, subst, append_assoc, length-append, arith}
 use Rattle.model.specs.declared.types.Side.TheVariants.{Buy, Sell}
 use Rattle.model.specs.declared.types.Order.{Order}
 use Rattle.model.specs.declared.types.TapeRecord.{TapeRecord}
@@ -7,19 +7,15 @@ use Rattle.model.specs.Grid.{Settings}
 use Rattle.model.specs.Auction.{trades_at, apply_trade, apply_trades}
 use Rattle.tape.specs.declared.tapes.Tape.{Tape}
 use Rattle.tape.specs.Tapes.{room, Recorded}
-use Rattle.tape.proofs.Recording.{recorded_none, recorded_more, room_after}
+use Rattle.tape.proofs.Recording.{recorded_more, room_after}
 use Rattle.striking.specs.declared.meetings.Meeting.{Meeting}
 use Rattle.striking.specs.Parties.{Passed}
-use Rattle.striking.specs.Meetings.{Meets, trade_record, reached, last_party, IsLast}
+use Rattle.striking.specs.Meetings.{Meets, trade_record, reached, last_party}
 
 -- the trades us, behind the last meeting, end as the trades ts do
 abbrev pub Follows : List TapeRecord → List TapeRecord → Option Meeting → Type 0
 Follows ts us None = us ≡ ts
 Follows ts us (Some m) = (last_party Buy m.buy.order.number us ≡ last_party Buy 0 ts) × (last_party Sell m.sell.order.number us ≡ last_party Sell 0 ts)
-
-is_last : (ts us : List TapeRecord) (last : Option Meeting) → Follows ts us last → us ≡ [] → IsLast ts last
-is_last ts us None h e = sym h ∙ e
-is_last ts us (Some m) h e = (sym (ap (last_party Buy m.buy.order.number) e) ∙ h.0, sym (ap (last_party Sell m.sell.order.number) e) ∙ h.1)
 
 follows_more : (ts us us' : List TapeRecord) (p : ℕ) (last : Option Meeting) (m : Meeting) → Follows ts us last → us ≡ trade_record p m ∷ us' → Follows ts us' (Some m)
 follows_more ts us us' p None m h e = (ap (last_party Buy 0) (sym e ∙ h), ap (last_party Sell 0) (sym e ∙ h))
@@ -36,9 +32,6 @@ pub record Going (g : Settings) (p : ℕ) (ts : List TapeRecord) (os now : List 
   pub sells : Passed g Sell now (reached Sell last)
 
 module _ (g : Settings) (p : ℕ) (os : List Order) (t₀ : Tape) where
-  pub going_start : (v : ℕ) → Going g p (trades_at g p v os) os os t₀ t₀ v None
-  going_start v = record { made = []; all = refl; orders = refl; records = recorded_none t₀; follows = refl; buys = refl; sells = refl }
-
   module _ (ts : List TapeRecord) (now : List Order) (t : Tape) (v : ℕ) (last : Option Meeting) (h : Going g p ts os now t₀ t v last) where
     -- the next trade has a place
     pub going_place : (m : Meeting) → Meets g p v now m → length ts ≤ room t₀ → 0 < room t
@@ -57,11 +50,3 @@ module _ (g : Settings) (p : ℕ) (os : List Order) (t₀ : Tape) where
           buys = k.buys;
           sells = k.sells;
         })
-
-    -- after the last one
-    pub going_done : trades_at g p v now ≡ [] → IsLast ts last × (now ≡ apply_trades ts os) × Recorded t₀ t ts
-    going_done e = (
-      is_last ts (trades_at g p v now) last h.follows e,
-      ap (λ us. apply_trades us now) (sym e) ∙ h.orders,
-      subst (Recorded t₀ t) (sym (append-nil h.made) ∙ ap (λ us. h.made ++ us) (sym e) ∙ h.all) h.records,
-    )

@@ -1,14 +1,14 @@
 -- One trade between the first parties of both sides: what it leaves in rank, and of the trades.
 use Rattle.std.proofs.Common.{◌≡◌, ℕ, ◌+◌, ◌-◌, ◌≤◌, min, Bool, true, eqb, ltb, leb, List, [], ◌∷◌, drop, Some, filter, sym, refl, ap, ◌∙◌, subst, ap₂, arith}
 use Rattle.std.specs.List.{ContainsAt as Has}
-use Rattle.std.proofs.lemmas.Bool.{cond_both, and_from, false≢true, le-leb, lt-ltb}
+use Rattle.std.proofs.lemmas.Bool.{cond_both, and_from, le-leb, lt-ltb}
 use Rattle.model.specs.declared.types.Order.{Order}
 use Rattle.model.specs.declared.types.Side.{Side}
 use Rattle.model.specs.declared.types.Side.TheVariants.{Buy, Sell}
 use Rattle.model.specs.declared.types.TapeRecord.TheVariants.{Trade}
 use Rattle.model.specs.Grid.{Settings, active}
 use Rattle.model.specs.Curve.{takes_part}
-use Rattle.model.specs.Rank.{same_side, ranked}
+use Rattle.model.specs.Rank.{ranked}
 use Rattle.model.specs.Orders.{Standing, find, lower}
 use Rattle.model.specs.Auction.{at_price, trades_at, apply_trade, pair}
 use Rattle.model.proofs.Lists.{all_from_has, has_here}
@@ -24,6 +24,7 @@ use Rattle.striking.specs.Meetings.{Meets}
 use Rattle.model.proofs.Commuting.{rest_of, lower_first, Lacks, lower_missing, kept_lower, ranked_lower, drop_lower, distinct_drop, has_lower, kept_ranked}
 use Rattle.striking.proofs.Walked.{at_price_parties, has_at_place, ranked_stands}
 use Rattle.striking.proofs.Stepping.{pair_step, pair_no_sells}
+use Rattle.model.proofs.AtPrice.{one_side}
 
 lacks_lower : (m n q : ℕ) (xs : List Order) → Lacks m xs → Lacks m (lower n q xs)
 lacks_lower m n q [] h = h
@@ -31,11 +32,6 @@ lacks_lower m n q (x ∷ xs) h =
     cond_both (eqb x.number n) _ _ (Lacks m)
     (λ _. cond_both (leb x.left q) _ _ (Lacks m) (λ _. h.1) (λ _. h))
     (λ _. (h.0, lacks_lower m n q xs h.1))
-
--- no order stands on both sides
-one_side : (s : Side) → same_side Buy s ≡ true → same_side Sell s ≡ true → ⊥
-one_side Buy h k = false≢true k
-one_side Sell h k = false≢true h
 
 module _ (os : List Order) (d : Distinct os) where
   pub sides_apart : (b s : Order) → Has (ranked Buy os) b → Has (ranked Sell os) s → b.number ≡ s.number → ⊥

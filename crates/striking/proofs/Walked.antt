@@ -3,7 +3,7 @@ use Rattle.std.proofs.Common.{◌≡◌, ℕ, ◌+◌, ◌≤◌, Bool, true, fa
 use Rattle.std.specs.Bool.{then_some}
 use Rattle.std.specs.Option.{MatchOption}
 use Rattle.std.specs.List.{ContainsAt as Has, AllByRecursion}
-use Rattle.std.proofs.lemmas.Bool.{cond-true, cond-false, cases_Bool, both_ways}
+use Rattle.std.proofs.lemmas.Bool.{cond-true, cases_Bool, both_ways}
 use Rattle.std.proofs.ByRecursion.{All-drop, all-has, all_has_itself, All-weaker, kept_by_passes}
 use Rattle.model.specs.declared.types.Order.{Order}
 use Rattle.model.specs.declared.types.Side.{Side}
@@ -11,7 +11,7 @@ use Rattle.model.specs.Grid.{Settings, active}
 use Rattle.model.specs.Curve.{allows, takes_part}
 use Rattle.model.specs.Rank.{ranked}
 use Rattle.model.specs.Auction.{at_price}
-use Rattle.model.proofs.Lists.{Pairwise, has_here, kept_has, pairwise_drop, pairwise_kept}
+use Rattle.model.proofs.Lists.{Pairwise, has_here, kept_has, pairwise_drop, pairwise_kept, kept_none}
 use Rattle.model.proofs.Ranking.{Wider, ranked_wider, of_side, all_ranked, ranked_has}
 use Rattle.walking.specs.Walks.{actives, Found, Next}
 use Rattle.model.specs.Orders.{Standing}
@@ -22,11 +22,6 @@ use Rattle.book.specs.Meaning.{max_capacity}
 use Rattle.walking.specs.declared.placed.Placed.{Placed}
 use Rattle.striking.specs.Parties.{willing, parties, First}
 use Rattle.model.proofs.Commuting.{kept_ranked}
-
--- a filter that nothing passes
-kept_none : (f : Order → Bool) (xs : List Order) → AllByRecursion (λ x. f x ≡ false) xs → filter f xs ≡ []
-kept_none f [] h = refl
-kept_none f (x ∷ xs) h = cond-false (f x) _ _ h.0 ∙ kept_none f xs h.1
 
 -- of the orders of a side, those that take part are the active ones that allow the price
 parts_willing : (g : Settings) (s : Side) (p : ℕ) (xs : List Order) → AllByRecursion (λ x. of_side s x ≡ true) xs → filter (takes_part g s p) xs ≡ willing s p (actives g xs)

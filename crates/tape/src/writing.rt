@@ -6,7 +6,8 @@ use model::TapeRecord;
 
 impl<'a> Tape<'a> {
     // A tape of which the places before the next one are used.
-    // A call makes one and keeps its next place: two lines in each, where a closure around them would stand in every contract.
+    // A call makes one and keeps its next place, in two lines. A function around them would take the rest of the call as a closure,
+    // and each call would have to prove what that does.
     pub fn new(places: &'a mut [TapeRecord], next: usize) -> Tape<'a>
         ensures same { result.places.ghost_name ≡ places.entry.ghost_name }
         ensures places { result.places.now ≡ places.old }
@@ -16,7 +17,7 @@ impl<'a> Tape<'a> {
     }
 
     // Writes a record at the next free place.
-    // That one is free is required, here and above, and no fact of the type: a tape may be full.
+    // That one is free is required, here and in all that writes, and no fact of the type: a tape may be full.
     pub fn write(&mut self, entry: TapeRecord)
         requires { 0 < room self.old }
         ensures { Recorded self.old self.new (entry ∷ []) }

@@ -38,7 +38,7 @@ impl Market {
     }
 }
 
-// Orders of one member, at any price. Those of `day` take a member and a number, and functions for both would each need a contract.
+// Orders of one member, at any price. Those of `day` take a member and a plain limit: words for both would be public functions of a library, each with a contract.
 pub(crate) fn buy(price: OrderPrice, quantity: u64) -> Call {
     order(Side::Buy, price, quantity, Condition::Plain)
 }

@@ -3,6 +3,7 @@ use book::Book;
 use desk::trade_day;
 use model::{Answer, Call, Point, Reason, Refusal, TapeRecord};
 use std::alloc::Global;
+use std::fmt;
 use std::test::Fail;
 
 // Contents that no day writes, and not the blank ones: a place that is shown and was not written would be seen.
@@ -45,51 +46,59 @@ pub(crate) fn shown_day<B: Book + Drop>(
     ) {
         Ok(end) => {
             for answer in answers.iter().take(end.calls) {
-                show_answer(&mut line, *answer)?;
+                let outcome = Result::<u64, Refusal>::try_from(*answer)?;
+                write!(line, "{} ", Short(outcome))?;
             }
             write!(line, "|")?;
             for record in tape.iter().take(end.used) {
-                show_record(&mut line, *record)?;
+                write!(line, " {}", Short(*record))?;
             }
             let reference = end.reference;
             let standing = end.standing;
             write!(line, " | at {reference}, {standing} stand")?;
         }
-        Err(why) => {
-            let number = u8::from(why);
-            write!(line, "!{number}")?;
-        }
+        Err(why) => write!(line, "{}", Short(why))?,
     }
     Ok(line)
 }
 
-fn show_answer(line: &mut String, answer: Answer) -> Result<(), Fail> {
-    match Result::<u64, Refusal>::try_from(answer)? {
-        Ok(value) => write!(line, "{value} ")?,
-        Err(why) => {
-            let number = u8::from(why);
-            write!(line, "!{number} ")?;
-        }
+// A value as the test writes it, short and by numbers. `day` writes sentences, so each has a `Display` of its own.
+#[derive(Clone, Copy)]
+struct Short<T>(T);
+
+impl fmt::Display for Short<Refusal> {
+    fn fmt<W: fmt::Write>(&self, f: &mut fmt::Formatter<W>) -> fmt::Result {
+        let number = u8::from(self.0);
+        write!(f, "!{number}")
     }
-    Ok(())
 }
 
-fn show_record(line: &mut String, record: TapeRecord) -> Result<(), Fail> {
-    match record {
-        TapeRecord::Trade {
-            buy,
-            sell,
-            price,
-            quantity,
-        } => write!(line, " {buy}+{sell}={quantity}@{price}")?,
-        TapeRecord::Withdrawal {
-            number,
-            quantity,
-            reason,
-        } => {
-            let code = u8::from(reason);
-            write!(line, " {number}-{quantity}({code})")?;
+impl fmt::Display for Short<Result<u64, Refusal>> {
+    fn fmt<W: fmt::Write>(&self, f: &mut fmt::Formatter<W>) -> fmt::Result {
+        match self.0 {
+            Ok(value) => write!(f, "{value}"),
+            Err(why) => write!(f, "{}", Short(why)),
         }
     }
-    Ok(())
+}
+
+impl fmt::Display for Short<TapeRecord> {
+    fn fmt<W: fmt::Write>(&self, f: &mut fmt::Formatter<W>) -> fmt::Result {
+        match self.0 {
+            TapeRecord::Trade {
+                buy,
+                sell,
+                price,
+                quantity,
+            } => write!(f, "{buy}+{sell}={quantity}@{price}"),
+            TapeRecord::Withdrawal {
+                number,
+                quantity,
+                reason,
+            } => {
+                let code = u8::from(reason);
+                write!(f, "{number}-{quantity}({code})")
+            }
+        }
+    }
 }

@@ -1,5 +1,5 @@
 -- The market orders of a book, counted from the front of each side's ranking.
-use Rattle.std.proofs.Common.{◌≡◌, ℕ, zero, suc, ◌+◌, ◌-◌, ◌≤◌, Bool, true, false, not, List, [], ◌∷◌, length, drop, Some, None, filter, Option, sym, refl, ap, ◌∙◌, subst, arith}
+use Rattle.std.proofs.Common.{◌≡◌, ℕ, suc, ◌+◌, ◌-◌, ◌≤◌, Bool, true, false, not, List, [], ◌∷◌, length, drop, Some, None, filter, Option, sym, refl, ap, ◌∙◌, subst, arith}
 use denote.Param.Members.{Mut}
 use Rattle.std.specs.declared.ops.Range.{Range}
 use Rattle.std.specs.Iterator.{Yields}
@@ -15,7 +15,7 @@ use Rattle.model.specs.declared.types.Side.{Side}
 use Rattle.model.specs.Orders.{Standing, is_market}
 use Rattle.model.specs.Rank.{price_first, before, ranked}
 use Rattle.model.specs.Calls.{is_market_order}
-use Rattle.model.proofs.Lists.{Pairwise}
+use Rattle.model.proofs.Lists.{Pairwise, pairwise_drop}
 use Rattle.model.proofs.Ranking.{ranked_strictly}
 use Rattle.model.proofs.Standing.{standing_distinct}
 use Rattle.book.specs.Meaning.{place}
@@ -40,11 +40,6 @@ before_no_market s (Limit p) (Limit q) earlier m h = refl
 no_markets : (s : Side) (x : Order) (xs : List Order) → is_market_order x ≡ false → AllByRecursion (λ y. before s x y ≡ true) xs → markets xs ≡ []
 no_markets s x [] m h = refl
 no_markets s x (y ∷ ys) m h = cond-false (is_market_order y) _ _ (before_no_market s x.price y.price _ m h.0) ∙ no_markets s x ys m h.1
-
-pairwise_drop : (R : Order → Order → Type 0) (n : ℕ) (xs : List Order) → Pairwise R xs → Pairwise R (drop n xs)
-pairwise_drop R zero xs h = h
-pairwise_drop R (suc n) [] h = tt
-pairwise_drop R (suc n) (x ∷ xs) h = pairwise_drop R n xs h.1
 
 -- so the first limit order, or the end, ends the count
 market_end : (hi : ℕ) (s : Side) (os : List Order) (n : ℕ) (r : Option Order) → Standing 0 os hi → r ≡ place (n + 1) (ranked s os) → market_found r ≡ false → markets (drop n (ranked s os)) ≡ []

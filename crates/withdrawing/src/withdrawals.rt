@@ -14,6 +14,8 @@ use model::{Reason, TapeRecord};
 use tape::Tape;
 
 // Withdraws every market order, by number, and answers how many.
+// Book and tape are two parameters, in all that trades or withdraws: a struct of both would be taken apart at each order,
+// since a take changes the book alone, and a write the tape alone.
 pub fn withdraw_markets<B: Book>(book: &mut B, tape: &mut Tape) -> usize
     requires { length (filter is_market_order (B.orders book.old)) ≤ places tape.old }
     ensures answer { result ≡ length (filter is_market_order (B.orders book.old)) }

@@ -1,8 +1,14 @@
+ghost use Rattle.std.specs.Prelude.{◌≡◌};
+ghost use Rattle.book.specs.Plain.{plain};
+ghost use Rattle.crossing.specs.Turning.{entry_of, call_of, answer_of, raw_answer, price_of, reason_of, record_of, raw_record, point_of, raw_point, raw_order, phase_number};
+
 use crate::raw::{RawAnswer, RawCall, RawOrder, RawPoint, RawRecord};
 use book::StandingOrder;
 use model::{Answer, Call, Condition, Entry, OrderPrice, Phase, Point, Reason, Side, TapeRecord};
 
 impl From<RawCall> for Entry {
+    ghost from_gives = { λ raw entry. entry ≡ entry_of raw };
+
     fn from(raw: RawCall) -> Entry {
         Entry {
             member: raw.member,
@@ -23,6 +29,8 @@ impl From<RawCall> for Entry {
 }
 
 impl From<RawCall> for Call {
+    ghost from_gives = { λ raw call. call ≡ call_of raw };
+
     fn from(raw: RawCall) -> Call {
         match raw.kind {
             0 => Call::Enter(Entry::from(raw)),
@@ -37,17 +45,21 @@ impl From<RawCall> for Call {
     }
 }
 
-// A refusal's number is the lowest byte of what stands there, and a price below the lowest half: no number from C is refused.
+// A refusal's number is the lowest byte of what stands there: no number from C is refused.
 impl From<RawAnswer> for Answer {
+    ghost from_gives = { λ raw answer. answer ≡ answer_of raw };
+
     fn from(raw: RawAnswer) -> Answer {
         Answer {
-            refusal: (raw.refusal & 0xff) as u8,
+            refusal: (raw.refusal % 0x100) as u8,
             answer: raw.answer,
         }
     }
 }
 
 impl From<Answer> for RawAnswer {
+    ghost from_gives = { λ answer raw. raw ≡ raw_answer answer };
+
     fn from(answer: Answer) -> RawAnswer {
         RawAnswer {
             refusal: u64::from(answer.refusal),
@@ -56,30 +68,49 @@ impl From<Answer> for RawAnswer {
     }
 }
 
-// What a place of the tape holds before it is used may be any numbers; one that names no reason is read as the close.
+// A price is the lower half of what stands there. No `From`: neither number is of this crate,
+// and the library's `TryFrom` refuses a higher one.
+fn price_of(number: u64) -> u32
+    ensures { result ≡ price_of number }
+{
+    (number % 0x1_0000_0000) as u32
+}
+
+// A number that names no reason is read as the close. No `From`: neither a number nor a reason is of this crate.
+fn reason_of(number: u64) -> Reason
+    ensures { result ≡ reason_of number }
+{
+    let Ok(number) = u8::try_from(number) else {
+        return Reason::AtClose;
+    };
+    Reason::try_from(number).unwrap_or(Reason::AtClose)
+}
+
+// What a place of the tape holds before it is used may be any numbers.
 impl From<RawRecord> for TapeRecord {
+    ghost from_gives = { λ raw tape_record. tape_record ≡ record_of raw };
+
     fn from(raw: RawRecord) -> TapeRecord {
         if raw.kind == 0 {
             TapeRecord::Trade {
                 buy: raw.first,
                 sell: raw.second,
-                price: (raw.price & 0xffff_ffff) as u32,
+                price: price_of(raw.price),
                 quantity: raw.quantity,
             }
         } else {
             TapeRecord::Withdrawal {
                 number: raw.first,
                 quantity: raw.quantity,
-                reason: u8::try_from(raw.second)
-                    .ok()
-                    .and_then(|number| Reason::try_from(number).ok())
-                    .unwrap_or(Reason::AtClose),
+                reason: reason_of(raw.second),
             }
         }
     }
 }
 
 impl From<TapeRecord> for RawRecord {
+    ghost from_gives = { λ tape_record raw. raw ≡ raw_record tape_record };
+
     fn from(record: TapeRecord) -> RawRecord {
         match record {
             TapeRecord::Trade {
@@ -110,9 +141,11 @@ impl From<TapeRecord> for RawRecord {
 }
 
 impl From<RawPoint> for Point {
+    ghost from_gives = { λ raw point. point ≡ point_of raw };
+
     fn from(raw: RawPoint) -> Point {
         Point {
-            price: (raw.price & 0xffff_ffff) as u32,
+            price: price_of(raw.price),
             demand: raw.demand,
             supply: raw.supply,
         }
@@ -120,6 +153,8 @@ impl From<RawPoint> for Point {
 }
 
 impl From<Point> for RawPoint {
+    ghost from_gives = { λ point raw. raw ≡ raw_point point };
+
     fn from(point: Point) -> RawPoint {
         RawPoint {
             price: u64::from(point.price),
@@ -130,6 +165,8 @@ impl From<Point> for RawPoint {
 }
 
 impl From<StandingOrder> for RawOrder {
+    ghost from_gives = { λ order raw. raw ≡ raw_order (plain order) };
+
     fn from(order: StandingOrder) -> RawOrder {
         RawOrder {
             number: order.number,
@@ -148,7 +185,9 @@ impl From<StandingOrder> for RawOrder {
 }
 
 // The number by which the end of a day names its phase. No `From`: neither a phase nor a number is of this crate.
-pub(crate) fn phase_number(phase: Phase) -> u64 {
+pub(crate) fn phase_number(phase: Phase) -> u64
+    ensures { result ≡ phase_number phase }
+{
     match phase {
         Phase::PreOpening => 0,
         Phase::Random => 1,

@@ -1,0 +1,4 @@
+pub mod Reasons
+pub mod Filling
+pub mod Showing
+pub mod Trading

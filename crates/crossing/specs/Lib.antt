@@ -1,0 +1,4 @@
+pub mod Refused
+pub mod Turning
+pub mod Shown
+pub mod Days
