@@ -2,6 +2,7 @@ pub mod Views
 pub mod Taking
 pub mod Changes
 pub mod Scans
+pub mod Halves
 pub mod Filed
 pub mod BothSides
 pub mod Middle

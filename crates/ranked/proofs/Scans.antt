@@ -1,9 +1,7 @@
 -- What a search of a queue answers: by rank, by number, and whether all numbers are below one.
-use Rattle.std.proofs.Common.{◌≡◌, ℕ, suc, ◌+◌, ◌≤◌, Bool, true, false, cond, not, ◌&&◌, eqb, ltb, List, [], ◌∷◌, length, Some, None, sym, refl, ap, ◌∙◌, subst, arith}
+use Rattle.std.proofs.Common.{◌≡◌, ℕ, suc, ◌+◌, ◌≤◌, true, false, cond, not, ◌&&◌, eqb, ltb, List, [], ◌∷◌, length, Some, None, sym, refl, ap, ◌∙◌, subst, arith}
 use Rattle.std.specs.List.{insert as inserted, list_all, position, position_or_len}
-use Rattle.std.specs.Option.{unwrap_or}
 use Rattle.std.proofs.lemmas.List.Quantifiers.{position-Some}
-use Rattle.std.proofs.lemmas.List.Sums.{prefix_len-le-length}
 use Rattle.std.proofs.lemmas.Option.{none-some}
 use Rattle.std.proofs.lemmas.Bool.{cond_both, eqb-true, ltb-false}
 use Rattle.model.specs.declared.types.Side.{Side}
@@ -36,12 +34,6 @@ pub none_has : (n : ℕ) (xs : List Order) → position (λ o. eqb o.number n) x
 none_has n xs =
     let k = position_or_len (λ (o : Order). eqb o.number n) xs in
     cond_both (ltb k (length xs)) (Some k) None (λ r. r ≡ None → find n xs ≡ None) (λ _ e. absurd (none-some k (sym e))) (λ e _. none_past n xs (ltb-false k (length xs) e))
-
--- the place of the first that passes, or the length
-pub place_or_len : {X : Type 0} (p : X → Bool) (xs : List X) (n : ℕ) → n ≡ length xs → unwrap_or (position p xs) n ≡ position_or_len p xs
-place_or_len p xs n e =
-    let w = prefix_len-le-length (λ x. not (p x)) xs in
-    cond_both (ltb (position_or_len p xs) (length xs)) (Some (position_or_len p xs)) None (λ r. unwrap_or r n ≡ position_or_len p xs) (λ _. refl) (λ z. let l = ltb-false (position_or_len p xs) (length xs) z in omega arith)
 
 -- an order put in at its rank is inserted in rank
 insert_at_rank : (s : Side) (o : Order) (xs : List Order) → inserted xs (position_or_len (before s o) xs) o ≡ insert s o xs

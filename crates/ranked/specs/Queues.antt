@@ -1,9 +1,10 @@
 -- The queues of the two sides in one slice.
-use Rattle.std.specs.Prelude.{◌≡◌, ℕ, ◌+◌, ◌<◌, cond, List, length, take}
+use Rattle.std.specs.Prelude.{◌≡◌, ℕ, ◌+◌, ◌<◌, true, cond, List, [], ◌∷◌, length, take}
+use Rattle.std.specs.List.{AllByRecursion}
 use Rattle.model.specs.declared.types.Side.{Side}
 use Rattle.model.specs.declared.types.Side.TheVariants.{Buy, Sell}
 use Rattle.model.specs.declared.types.Order.{Order}
-use Rattle.model.specs.Rank.{same_side}
+use Rattle.model.specs.Rank.{same_side, before}
 use Rattle.ranked.specs.Views.{view}
 use Rattle.ranked.specs.declared.sides.Sides.{Sides}
 
@@ -23,6 +24,11 @@ capacity_of h = length h.rows.now
 -- the orders of a side, the first in rank first
 unfoldable pub queue : Side → Sides → List Order
 queue s h = take (count_of s h) (view s h.rows.now)
+
+-- each order ranks before all behind it
+abbrev pub Descends : Side → List Order → Type 0
+Descends s [] = Unit {0}
+Descends s (x ∷ xs) = AllByRecursion (λ y. before s x y ≡ true) xs × Descends s xs
 
 -- a row between the two queues is free
 abbrev pub HasRoom : Sides → Type 0

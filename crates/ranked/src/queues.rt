@@ -55,15 +55,24 @@ impl<'a> Sides<'a> {
         self.rows.len()
     }
 
+    // The rows of a side: seen from its end they are its queue.
+    pub(crate) fn side_rows(&self, side: Side) -> &[Order]
+        ensures { view side result.now ≡ queue side self.now }
+    {
+        match side {
+            Side::Buy => &self.rows[..self.buys],
+            Side::Sell => &self.rows[self.capacity() - self.sells..],
+        }
+    }
+
     // The orders of a side, the first in rank first.
     pub(crate) fn orders(&self, side: Side) -> Orders<'_>
         ensures { view result.side (iter_rest result.rows) ≡ queue side self.now }
     {
-        let rows = match side {
-            Side::Buy => self.rows[..self.buys].iter(),
-            Side::Sell => self.rows[self.capacity() - self.sells..].iter(),
-        };
-        Orders { rows, side }
+        Orders {
+            rows: self.side_rows(side).iter(),
+            side,
+        }
     }
 
     // The order at a position.

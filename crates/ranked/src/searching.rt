@@ -4,7 +4,7 @@ ghost use Rattle.model.specs.Orders.{find};
 ghost use Rattle.model.specs.Rank.{before, insert as ranked_in};
 ghost use Rattle.book.specs.Meaning.{all_below};
 ghost use Rattle.rows.specs.Rows.{blank};
-ghost use Rattle.ranked.specs.Queues.{count_of, queue, HasRoom, Changed};
+ghost use Rattle.ranked.specs.Queues.{count_of, queue, Descends, HasRoom, Changed};
 ghost use Rattle.ranked.specs.Positions.{StandsAt, Located, nth_of};
 
 use crate::position::Position;
@@ -14,9 +14,11 @@ use rows::comes_before;
 
 impl<'a> Sides<'a> {
     // Puts an order in where it ranks on its side.
-    // a free row is required, and no fact of the type: a full table has none
+    // A free row is required, and no fact of the type: a full table has none. That the side is in rank is a fact
+    // of the table, and none of `Sides`, whose `insert` and `replace` write any order at any place: it is required too.
     pub(crate) fn enter(&mut self, order: Order)
-        requires { HasRoom self.old }
+        requires free { HasRoom self.old }
+        requires ranks { Descends order.side (queue order.side self.old) }
         ensures { Changed order.side (ranked_in order.side order (queue order.side self.old)) self.old self.new }
     {
         let index = self.rank_of(order);
@@ -72,13 +74,19 @@ impl<'a> Sides<'a> {
         Some(Position { side, index })
     }
 
-    // How many orders of its side an order ranks behind.
+    // How many orders of its side an order ranks behind, by halves: those ahead of it stand together.
+    // The rows of sells lie the last in rank first, so there those behind it are counted, and taken off.
     fn rank_of(&self, order: Order) -> usize
+        requires { Descends order.side (queue order.side self.now) }
         ensures { result ≡ position_or_len (before order.side order) (queue order.side self.now) }
     {
         let side = order.side;
-        self.orders(side)
-            .position(|other| comes_before(side, order, *other))
-            .unwrap_or(self.len(side))
+        let rows = self.side_rows(side);
+        match side {
+            Side::Buy => rows.partition_point(|other| !comes_before(side, order, *other)),
+            Side::Sell => {
+                rows.len() - rows.partition_point(|other| comes_before(side, order, *other))
+            }
+        }
     }
 }

@@ -6,6 +6,7 @@ use Rattle.book.specs.Plain.{plain}
 use Rattle.ranked.specs.Queues.{capacity_of, queue, Changed}
 use Rattle.ranked.specs.InRank.{meaning}
 use Rattle.ranked.specs.Keeping.{rank_in}
+use Rattle.ranked.proofs.Halves.{descends}
 use Rattle.ranked.proofs.Holding.{Becomes}
 use Rattle.ranked.proofs.Outcomes.{added}
 use Rattle.ranked.proofs.Replies.{addable_parts, count_meaning}
@@ -15,9 +16,10 @@ use Rattle.ranked.proofs.operations.RankedBookBook.add.Goals.{at-invariant_of-se
 
 pub enter-requires : goal.enter-requires
 enter-requires c =
-    let h = c.args.self.now.sides in
+    let b = c.args.self.now in
+    let h = b.sides in
     let p = addable_parts (capacity_of h) (meaning h) c.from-row.result (sym c.may_add.ensures ∙ c.if-not-may_add.false) in
-    omega (arith, p.0, count_meaning h)
+    record { free = omega (arith, p.0, count_meaning h); ranks = descends h (rank_in b) c.from-row.result.side }
 
 may : (c : goal.After-enter) → true ≡ addable (capacity_of c.args.self.now.sides) (meaning c.args.self.now.sides) (plain c.args.order)
 may c =

@@ -1,18 +1,19 @@
-use Rattle.std.proofs.Common.{◌≡◌, ◌+◌, true, Some, sym, ap, ◌∙◌, subst}
+use Rattle.std.proofs.Common.{◌≡◌, ◌+◌, ◌-◌, true, Some, sym, refl, ap, ◌∙◌, subst, arith}
 use Rattle.std.proofs.lemmas.Bool.{and_parts}
 use Rattle.model.specs.declared.types.OrderPrice.TheVariants.{Limit}
 use Rattle.model.specs.Numbers.{max_price, in_range}
-use Rattle.model.specs.Orders.{find, turn, is_market, with_price}
+use Rattle.model.specs.Orders.{find, turn, is_market, with_left, with_price}
 use Rattle.book.specs.Meaning.{all_below, can_turn}
 use Rattle.ranked.specs.InRank.{meaning}
 use Rattle.ranked.specs.Keeping.{rank_in}
 use Rattle.ranked.proofs.Found.{Stands, stands, found, missing}
+use Rattle.ranked.proofs.Halves.{descends}
 use Rattle.ranked.proofs.Holding.{Becomes}
-use Rattle.ranked.proofs.Outcomes.{turned}
+use Rattle.ranked.proofs.Outcomes.{used_up, turned}
 use Rattle.ranked.proofs.Replies.{some_if, none_if}
 use Rattle.ranked.proofs.Tops.{below_turn}
 use Rattle.ranked.proofs.operations.RankedBookBook.turn.Goals as goal
-use Rattle.ranked.proofs.operations.RankedBookBook.turn.Goals.{at-returns-in_default-after_turn-clause-answer, at-invariant_of-self, at-returns-clause-answer, at-returns-clause-after, After-at-order, In-Some-after_turn, After-enter}
+use Rattle.ranked.proofs.operations.RankedBookBook.turn.Goals.{at-enter-requires-clause-ranks, at-returns-in_default-after_turn-clause-answer, at-invariant_of-self, at-returns-clause-answer, at-returns-clause-after, After-at-order, In-Some-after_turn, After-enter}
 
 -- the order that was found
 here : (c : goal.After-at-order) → Stands c.args.self.now.sides c.args.number c.in-Some.at c.at-order.result
@@ -35,6 +36,13 @@ returns-in_default-after_turn-clause-answer c =
     let x = c.at-order.result in
     let p = c.args.price in
     sym (ap (can_turn p) (under (at-returns-in_default-after_turn-clause-answer c).After-at-order) ∙ none_if (can_turn p (Some x)) (with_price x (Limit p)) c.in_default-after_turn.ensures)
+
+-- it is taken out, and the others are in rank
+pub enter-requires-clause-ranks : goal.enter-requires-clause-ranks
+enter-requires-clause-ranks c =
+    let x = c.at-order.result in
+    let done = used_up c.args.self.now.sides c.args.number c.in-Some.at x (here (at-enter-requires-clause-ranks c).After-at-order) c.remove.new.self x.left (with_left x (x.left - x.left)) refl (omega arith) c.remove.ensures.after in
+    descends c.remove.new.self done.1 c.in-Some-after_turn.limited.side
 
 again : (c : goal.After-enter) → Becomes c.enter.new.self (turn c.args.number c.args.price (meaning c.args.self.now.sides))
 again c =

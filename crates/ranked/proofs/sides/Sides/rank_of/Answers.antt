@@ -1,22 +1,39 @@
-use Rattle.std.proofs.Common.{sym, ap, ◌∙◌, rules, arith, inl}
+use Rattle.std.proofs.Common.{◌≡◌, ◌-◌, Bool, true, false, not, reverse, sym, ap, ◌∙◌, subst, rules, arith}
 use borrow.Author.Tests.{tests}
-use Rattle.std.specs.Option.{unwrap_or}
-use Rattle.std.specs.Slice.Iter.{iter_rest}
-use Rattle.std.proofs.lemmas.Iterator.Search.{position_from_yields_List}
-use Rattle.std.proofs.lemmas.Iterator.Consumers.{YieldsList-from_first}
+use Rattle.std.specs.List.{position_or_len}
+use Rattle.std.specs.List.Sorted.{IsPartitionPoint, IsPartitionedBy}
+use Rattle.std.proofs.lemmas.List.{length-reverse, reverse-reverse}
+use Rattle.std.proofs.lemmas.List.Sorted.{IsPartitionPoint-from_clause}
+use Rattle.model.specs.declared.types.Order.{Order}
 use Rattle.model.specs.Rank.{before}
 use Rattle.ranked.specs.Views.{view}
-use Rattle.ranked.specs.Queues.{queue}
-use Rattle.ranked.proofs.Changes.{few_orders, length_queue}
-use Rattle.ranked.proofs.Scans.{place_or_len}
+use Rattle.ranked.specs.Queues.{queue, Descends}
+use Rattle.ranked.proofs.Halves.{parted, parted_back, place_from_front, place_from_back}
 use Rattle.ranked.proofs.sides.Sides.rank_of.Goals as goal
 
-pub position-requires-clause-fits : goal.position-requires-clause-fits
-position-requires-clause-fits c = let few = few_orders _ c.args.self.now _ c.orders.ensures in inl (omega arith)
+pub returns-in-Buy : goal.returns-in-Buy
+unfolding view
+returns-in-Buy c =
+    let o = c.args.order in
+    let s = o.side in
+    let k = c.partition_point.result in
+    let xs = c.side_rows-rows.result.now in
+    let e : queue s c.args.self.now ≡ xs = sym c.side_rows-rows.ensures ∙ ap (λ t. view t xs) c.in-Buy.is in
+    let d : Descends s xs = subst (Descends s) e c.requires in
+    place_from_front s o xs d k c.partition_point.ensures.bound (IsPartitionPoint-from_clause (λ x. not (before s o x)) xs k c.partition_point.ensures.partitioned (parted s o xs d) (λ a r f m. search (rules, tests)))
+    ∙ ap (position_or_len (before s o)) (sym e)
 
-pub returns : goal.returns
-returns c =
-    let s = c.args.order.side in
-    let q = queue s c.args.self.now in
-    let place = position_from_yields_List (before s c.args.order) c.position.new.self _ c.position.result c.position.ensures.ran (YieldsList-from_first (λ x. x.now) (λ s. view s.side (iter_rest s.rows)) q c.orders.ensures) (λ x b q k. search (rules, tests)) in
-    c.unwrap_or.ensures ∙ ap (λ r. unwrap_or r c.len.result) place ∙ place_or_len (before s c.args.order) q c.len.result (c.len.ensures ∙ sym (length_queue s c.args.self.now))
+pub returns-in-Sell : goal.returns-in-Sell
+unfolding view
+returns-in-Sell c =
+    let o = c.args.order in
+    let s = o.side in
+    let k = c.partition_point-in-Sell.result in
+    let xs = c.side_rows-rows.result.now in
+    let e : queue s c.args.self.now ≡ reverse xs = sym c.side_rows-rows.ensures ∙ ap (λ t. view t xs) c.in-Sell.is in
+    let d : Descends s (reverse xs) = subst (Descends s) e c.requires in
+    let p : Order → Bool = before s o in
+    let within = IsPartitionPoint-from_clause p xs k c.partition_point-in-Sell.ensures.partitioned (subst (IsPartitionedBy p) (reverse-reverse xs) (parted_back s o (reverse xs) d)) (λ a r f m. search (rules, tests)) in
+    ap (λ n. n - k) (sym (length-reverse xs))
+    ∙ place_from_back s o (reverse xs) d k (omega (arith, c.partition_point-in-Sell.ensures.bound, length-reverse xs)) (subst (λ l. IsPartitionPoint (λ x. p x ≡ true) (λ x. p x ≡ false) l k) (sym (reverse-reverse xs)) within)
+    ∙ ap (position_or_len p) (sym e)
