@@ -11,7 +11,7 @@ use Rattle.model.proofs.Commuting.{kept_ranked}
 use Rattle.model.proofs.Lists.{Pairwise, cond_pair}
 use Rattle.model.proofs.Ranking.{Distinct, before_asym, before_split, before_total, before_trans, ranked_strictly}
 use Rattle.book.specs.Meaning.{first, place}
-use Rattle.book.proofs.Places.{place_some, place_none}
+use Rattle.book.proofs.Places.{place_some, place_none, past_all}
 use Rattle.arrival.specs.Scans.{behind}
 
 -- the first in rank of two orders, of which the second may be missing
@@ -124,3 +124,8 @@ next_place s os (suc i) (Some x) d e b =
 pub place_past : (xs : List Order) (k n : ℕ) → None ≡ place (k + 1) xs → k < n → None ≡ place n xs
 place_past xs k zero e l = absurd (omega arith)
 place_past xs k (suc n) e l = sym (ap first (drop_all n xs (omega (arith, ap length (place_none xs k e), length-drop k xs))))
+
+-- past all orders of the book there is none in rank
+pub place_beyond : (s : Side) (os : List Order) (n : ℕ) → length os < n → None ≡ place n (ranked s os)
+place_beyond s os zero h = absurd (omega arith)
+place_beyond s os (suc n) h = sym (ap first (past_all s os n (omega arith)))

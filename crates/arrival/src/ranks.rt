@@ -9,10 +9,16 @@ use model::{Order, Side};
 use rows::comes_before;
 
 // The n-th order of a side in rank, counted from 1: n scans.
+// Out of line, so that `nth` of a book that may be either table can be in line: that of the ranked table is short.
+#[inline(never)]
 pub(crate) fn nth_in_rank(orders: &[Order], side: Side, n: usize) -> Option<Order>
     requires { Standing 0 orders.now max_number }
     ensures { result ≡ place n (ranked side orders.now) }
 {
+    // past all orders there is none, known without a scan
+    if n > orders.len() {
+        return None;
+    }
     let mut at = None;
     // a loop, and no `try_fold`: that wraps the order of each step in a second option, and takes it off again at the end
     for _ in 0..n {

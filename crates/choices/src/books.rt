@@ -59,6 +59,8 @@ impl<'a> Book for TableBook<'a> {
         }
     }
 
+    // In line: a walk in rank asks for one order after another.
+    #[inline(always)]
     fn nth(&self, side: Side, n: usize) -> Option<StandingOrder> {
         match self {
             TableBook::Arrival(book) => book.nth(side, n),

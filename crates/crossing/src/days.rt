@@ -1,4 +1,4 @@
-ghost use Rattle.std.specs.Prelude.{◌≡◌, ◌⊎◌, min, [], map, length, MatchResult, vec_len};
+ghost use Rattle.std.specs.Prelude.{◌≡◌, ◌⊎◌, min, [], map, length, MatchResult, IfOk, vec_len};
 ghost use Rattle.model.specs.Numbers.{code, no_refusal};
 ghost use Rattle.model.specs.Making.{make_refusal, made};
 ghost use Rattle.grid.specs.Views.{given, offered};
@@ -19,7 +19,7 @@ use grid::Terms;
 use model::{Order, Refusal};
 use pricing::PriceRule;
 use session::{Session, run};
-use std::alloc::Global;
+use std::alloc::{AllocError, Global};
 
 // A day that is done, and one for which there is no memory. Numbers, since they cross to C, as those of tables and rules do.
 const DONE: u64 = 0;
@@ -66,7 +66,7 @@ pub fn cross_day(
     let Ok(mut memory) = Memory::new(heap, calls, answers, tape, scratch) else {
         return NO_MEMORY;
     };
-    let Ok(mut rows) = Vec::from_elem(heap, Order::BLANK, capacity.min(MAX_CAPACITY)) else {
+    let Ok(mut rows) = blank_rows(heap, capacity) else {
         return NO_MEMORY;
     };
     let book = table_of(table).empty(&mut rows);
@@ -76,6 +76,15 @@ pub fn cross_day(
         Ok(()) => DONE,
         Err(why) => u64::from(u8::from(why)),
     }
+}
+
+// Rows for a table of this capacity, at most as many as a table uses.
+// Out of line: where this is a part of the function above, each row is filled in pieces, at twice the time.
+#[inline(never)]
+fn blank_rows(heap: Global, capacity: usize) -> Result<Vec<Order>, AllocError>
+    ensures { IfOk result (λ rows. vec_len rows ≡ min capacity max_capacity) }
+{
+    Vec::from_elem(heap, Order::BLANK, capacity.min(MAX_CAPACITY))
 }
 
 // The table and the rule of a number from C. No `TryFrom`, since every number names one, and no `From`: neither type is of this crate.

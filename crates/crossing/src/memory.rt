@@ -58,7 +58,10 @@ impl Memory {
 fn copied_in<R: Copy, T: From<R> + Drop>(heap: Global, raw: &[R]) -> Result<Vec<T>, AllocError>
     ensures { (turned : R → T) → ((one : R) (it : T) → T.from_gives one it → it ≡ turned one) → IfOk result (λ v. v.items ≡ map turned raw.now) }
 {
-    raw.iter().map(|one| T::from(*one)).collect(heap)
+    // the memory first, and no `collect`: that takes it part by part where the whole is not to be had
+    let mut values = Vec::with_capacity(heap, raw.len())?;
+    values.extend(raw.iter().map(|one| T::from(*one)))?;
+    Ok(values)
 }
 
 // Writes values as plain numbers, each in its place.

@@ -18,6 +18,10 @@ pub fn write_run<B: Book>(book: &B, settings: &Settings, from: u32, points: &mut
     requires { from + length points.old * settings.now.tick ≤ 200000 }
     ensures { points.new ≡ map (point (plain settings.now) (B.orders book.now)) (prices_from settings.now.tick from (length points.old)) }
 {
+    // where there is no point, no order is looked at
+    if points.is_empty() {
+        return;
+    }
     let run = Run {
         settings,
         from,

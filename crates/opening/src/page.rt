@@ -29,6 +29,10 @@ pub(crate) fn show(
     entries: &[Entry],
 ) -> io::Result<()> {
     println!(rt; "{title}")?;
+    // the lines before the orders are collected: they are printed where memory is lacking too
+    for (number, entry) in (1..).zip(entries) {
+        show_order(rt, number, *entry)?;
+    }
     // no conversion: its number is not the entry's
     let orders: Vec<Order> = (1..)
         .zip(entries)
@@ -40,9 +44,6 @@ pub(crate) fn show(
             left: entry.quantity,
         })
         .collect(rt.alloc())?;
-    for order in &orders {
-        show_order(rt, *order)?;
-    }
     let mut scratch = vec![in rt.alloc(); Point::BLANK; settings.count()]?;
     let by_nearest = MostTraded { below: Nearest };
     let nearest = opening_price(&by_nearest, settings, &orders, &mut scratch);
@@ -60,16 +61,15 @@ pub(crate) fn show(
     println!(rt)
 }
 
-// No `Display`: an order is a type of `model`, which both programs would then show alike, and `day` has other words for
+// No `Display`: an entry is a type of `model`, which both programs would then show alike, and `day` has other words for
 // the side. A type of this program around it would serve this one line.
-fn show_order(rt: &HostRuntime, order: Order) -> io::Result<()> {
-    let number = order.number;
-    let left = order.left;
-    let side = match order.side {
+fn show_order(rt: &HostRuntime, number: u64, entry: Entry) -> io::Result<()> {
+    let left = entry.quantity;
+    let side = match entry.side {
         Side::Buy => "buy",
         Side::Sell => "sell",
     };
-    match order.price {
+    match entry.price {
         OrderPrice::Market => println!(rt; "  {number} {side:<4} {left:>4} at market"),
         OrderPrice::Limit(price) => println!(rt; "  {number} {side:<4} {left:>4} at {price}"),
     }

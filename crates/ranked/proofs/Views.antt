@@ -1,9 +1,10 @@
--- A view read and written at one place, and the rotations by which rows move.
-use Rattle.std.proofs.Common.{◌≡◌, ℕ, suc, ◌+◌, ◌-◌, ◌<◌, ◌≤◌, List, [], ◌∷◌, ◌++◌, reverse, length, get_or, take, drop, set, sym, refl, ap, ◌∙◌, arith, drop-cons}
+-- A view read and written at one place, and the rotation and the copy by which rows move.
+use Rattle.std.proofs.Common.{◌≡◌, ℕ, suc, ◌+◌, ◌-◌, ◌<◌, ◌≤◌, List, [], ◌∷◌, ◌++◌, reverse, length, get_or, take, drop, set, sym, refl, ap, ◌∙◌, ap₂, arith, drop-cons, add-one}
+use Rattle.std.proofs.Math.Seq.{paste, take-suc}
 use borrow.Rule.Slice.PartMut.{put_mid, mid_of}
 use Rattle.std.specs.List.{insert, remove, between}
 use Rattle.std.proofs.lemmas.List.Edits.{insert-append_left, remove-append_left, insert_end, length-remove}
-use Rattle.std.proofs.lemmas.List.{length-reverse, length-drop, length-take-le, get_or-reverse, get_or-take, set_split, set_at, reverse-reverse, reverse-append, append_assoc, take-take, take_at, drop_at, drop_all, drop-drop, take-append-drop}
+use Rattle.std.proofs.lemmas.List.{length-reverse, length-drop, length-take-le, get_or-reverse, get_or-take, set_split, set_at, reverse-reverse, reverse-append, append_assoc, take-take, take_at, drop_at, drop-take, drop-drop, take-append-drop}
 use Rattle.std.proofs.lemmas.Slice.{between_is, between_to_end}
 use Rattle.model.specs.declared.types.Side.{Side}
 use Rattle.model.specs.declared.types.Side.TheVariants.{Buy, Sell}
@@ -87,7 +88,7 @@ far_end {X} v w m n l h e = half w (omega arith) ∙ ap (λ t. take n (reverse t
 pub halves : {X : Type 0} (xs : List X) (j : ℕ) → take (j + 1) xs ++ drop (suc j) xs ≡ xs
 halves xs j = let e : j + 1 ≡ suc j = omega arith in rw e (take-append-drop (suc j) xs)
 
--- the part from i up to j, turned one on, and one back
+-- the part from i up to j, turned one back
 module _ {X : Type 0} (xs part : List X) (i j : ℕ) (d : X) (from : i ≤ j) (within : j < length xs) where
   -- the elements up to j, and those above it
   abbrev front : List X
@@ -120,19 +121,21 @@ module _ {X : Type 0} (xs part : List X) (i j : ℕ) (d : X) (from : i ≤ j) (w
       let end : insert (remove front i) j x ≡ remove front i ++ x ∷ [] = ap (λ k. insert (remove front i) k x) (sym n) ∙ insert_end (remove front i) x in
       placed ∙ ap (λ p. take i front ++ (p ++ back)) to ∙ joined ∙ sym (ap (λ l. insert l j x) out ∙ insert-append_left (remove front i) back j x (omega (arith, n)) ∙ ap (λ l. l ++ back) end)
 
-  -- the j-th element moves to the place of the i-th
-  pub turned_on : part ≡ drop (length (mid_of i (j + 1 - i) xs) - 1) (mid_of i (j + 1 - i) xs) ++ take (length (mid_of i (j + 1 - i) xs) - 1) (mid_of i (j + 1 - i) xs) → put_mid i (j + 1 - i) xs part ≡ insert (remove xs j) i (get_or xs j d)
-  turned_on e =
-      let y = get_or xs j d in
-      let low = take j xs in
-      let mid : mid_of i (j + 1 - i) xs ≡ drop i front = between_is xs i (j + 1) in
-      let n : length (mid_of i (j + 1 - i) xs) - 1 ≡ j - i = omega (arith, ap length mid, length-drop i front, long) in
-      let up : i + (j - i) ≡ j = omega arith in
-      let first : drop (j - i) (drop i front) ≡ y ∷ [] = drop-drop (j - i) i front ∙ ap (λ k. drop k front) up ∙ drop-cons front j d (omega (arith, long)) ∙ ap (λ t. get_or front j d ∷ t) (drop_all (suc j) front (omega (arith, long))) ∙ ap (λ z. z ∷ []) (get_or-take (j + 1) xs j d (omega arith)) in
-      let rest : take (j - i) (mid_of i (j + 1 - i) xs) ≡ drop i low = take-take (j - i) (j + 1 - i) (drop i xs) (omega arith) ∙ between_is xs i j in
-      let to : part ≡ y ∷ drop i low = e ∙ ap (λ k. drop k (mid_of i (j + 1 - i) xs) ++ take k (mid_of i (j + 1 - i) xs)) n ∙ ap (λ t. drop (j - i) t ++ take (j - i) (mid_of i (j + 1 - i) xs)) mid ∙ cc in
-      let before : take i front ≡ take i low = take-take i (j + 1) xs (omega arith) ∙ sym (take-take i j xs from) in
-      placed ∙ cc (to, before, append_assoc (take i low) (y ∷ drop i low) back) ∙ sym (insert-append_left low back i y (omega (arith, length-take-le j xs (omega arith))))
+-- an element put at an earlier place, after those from there on were copied over the place where it was
+pub put_before : {X : Type 0} (xs : List X) (i j : ℕ) (x : X) → i ≤ j → j < length xs → set (paste xs (i + 1) (drop i xs) (j - i)) i x ≡ insert (remove xs j) i x
+put_before xs i j x from within =
+    let mid = take (j - i) (drop i xs) in
+    let back = drop (suc j) xs in
+    let up : i + (j - i) ≡ j = omega arith in
+    let end : i + 1 + (j - i) ≡ suc j = omega arith in
+    let first : take (i + 1) xs ≡ take i xs ++ get_or xs i x ∷ [] = ap (λ n. take n xs) (add-one i) ∙ take-suc xs i x (omega arith) in
+    let pasted : paste xs (i + 1) (drop i xs) (j - i) ≡ take i xs ++ get_or xs i x ∷ (mid ++ back) =
+    ap₂ (λ l n. (l ++ mid) ++ drop n xs) first end ∙ append_assoc (take i xs ++ get_or xs i x ∷ []) mid back ∙ append_assoc (take i xs) (get_or xs i x ∷ []) (mid ++ back) in
+    let rest : drop i (take j xs) ≡ mid = ap (λ n. drop i (take n xs)) (sym up) ∙ drop-take i (j - i) xs in
+    let low : take i (take j xs) ≡ take i xs = take-take i j xs from in
+    let inserted : insert (remove xs j) i x ≡ (take i (take j xs) ++ x ∷ drop i (take j xs)) ++ back = insert-append_left (take j xs) back i x (omega (arith, length-take-le j xs (omega arith))) in
+    ap (λ l. set l i x) pasted ∙ set_at (take i xs) (get_or xs i x) (mid ++ back) x i (length-take-le i xs (omega arith))
+    ∙ sym (inserted ∙ ap₂ (λ l m. (l ++ x ∷ m) ++ back) low rest ∙ append_assoc (take i xs) (x ∷ mid) back)
 
 -- an element moved from one place to another, from the back
 reverse_moved : {X : Type 0} (l : List X) (i j p q : ℕ) (x : X) → i < length l → j < length l → p ≡ length l - 1 - i → q ≡ length l - 1 - j → reverse (insert (remove l i) j x) ≡ insert (remove (reverse l) p) q x

@@ -37,7 +37,10 @@ pub(crate) fn move_row(rows: &mut [Order], side: Side, from: usize, to: usize)
     if source <= target {
         rows[source..target + 1].rotate_left(1);
     } else {
-        rows[target..source + 1].rotate_right(1);
+        // no `rotate_right`: with that the archive for C asks for `memcpy` from outside, for rotations by any number of rows
+        let row = rows[source];
+        rows.copy_within(target..source, target + 1);
+        rows[target] = row;
     }
 }
 

@@ -1,2 +1,3 @@
 pub mod Fine
+pub mod Turning
 pub mod Auctions

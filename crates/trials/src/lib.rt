@@ -1,6 +1,8 @@
-// The known outcomes and every refusal, run on both tables.
+// The known outcomes and every refusal, run on both tables, and a day for C.
 #![tactic(auto)]
 
+#[cfg(test)]
+mod crossed;
 #[cfg(test)]
 mod market;
 #[cfg(test)]

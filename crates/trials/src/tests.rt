@@ -1,3 +1,4 @@
+use crate::crossed::crossed_day;
 use crate::outcomes::{
     called_prices, grid_ends, interruptions, other_auctions, trading_and_making,
 };
@@ -20,4 +21,10 @@ fn both_tables_give_the_known_outcomes(rt: HostRuntime) -> Result<(), Fail> {
     occupied_books(&rt);
     foreign_prices(&rt);
     Ok(())
+}
+
+#[test]
+fn a_day_for_c_is_done_on_both_tables(rt: HostRuntime) {
+    crossed_day(&rt, 0);
+    crossed_day(&rt, 1)
 }

@@ -1,8 +1,8 @@
-use Rattle.std.proofs.Common.{◌≡◌, ◌<◌, length, get_or, ap, ◌∙◌, arith}
+use Rattle.std.proofs.Common.{◌≡◌, ◌<◌, length, get_or, set, ap, ◌∙◌, arith}
 use Rattle.std.specs.List.{insert, remove}
 use Rattle.rows.specs.Rows.{blank}
 use Rattle.ranked.specs.Views.{view, row_index}
-use Rattle.ranked.proofs.Views.{row_within, turned_back, turned_on, view_moved}
+use Rattle.ranked.proofs.Views.{row_within, turned_back, put_before, view_moved}
 use Rattle.ranked.proofs.moving.move_row.Goals as goal
 use Rattle.ranked.proofs.moving.move_row.Goals.{at-returns-then-source-target, at-returns-else-source-target, After-row_index-target}
 
@@ -27,6 +27,9 @@ pub returns-else-source-target : goal.returns-else-source-target
 returns-else-source-target c =
     let s = c.args.side in
     let rows = c.args.rows.now in
-    let within : c.row_index-source.result < length rows = omega (arith, c.row_index-source.ensures, row_within s (length rows) c.args.from c.requires.from) in
-    ap (view s) (turned_on rows c.rotate_right.new.self c.row_index-target.result c.row_index-source.result blank (omega arith) within c.rotate_right.ensures.after)
+    let low = c.row_index-target.result in
+    let high = c.row_index-source.result in
+    let row = get_or rows high blank in
+    let within : high < length rows = omega (arith, c.row_index-source.ensures, row_within s (length rows) c.args.from c.requires.from) in
+    ap (λ l. view s (set l low row)) c.copy_within.ensures.after ∙ ap (view s) (put_before rows low high row (omega arith) within)
     ∙ moved (at-returns-else-source-target c).After-row_index-target

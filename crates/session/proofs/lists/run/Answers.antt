@@ -1,19 +1,17 @@
-use Rattle.std.proofs.Common.{◌≡◌, leb, [], length, sym, ap, ◌∙◌, ap₂, subst, arith}
+use Rattle.std.proofs.Common.{◌≡◌, leb, [], length, sym, ap, ◌∙◌, subst, arith}
 use Rattle.std.proofs.lemmas.Bool.{cond-true, le-leb}
-use Rattle.model.specs.declared.types.Answer.{Answer}
 use Rattle.model.specs.Run.{calls_run, Ran}
 use Rattle.model.specs.Lawful.{Lawful}
-use Rattle.model.proofs.Running.{more_at, done}
+use Rattle.model.proofs.Running.{done}
 use Rattle.model.proofs.Promise.{the_session_keeps_its_laws}
 use Rattle.session.specs.Views.{state}
+use Rattle.session.proofs.Turning.{again}
 use Rattle.session.proofs.lists.run.Goals as goal
 
 pub loop-i-preserved : goal.loop-i-preserved
 loop-i-preserved g c = (
   let h = c.loop-i.invariant.0 in
-      let rule = ap (λ x. g.R.PriceRule.rule x.below) c.loop-i.invariant.1 in
-      let k = rw (rule, h.tape_long, h.scratch_long) at c.step.ensures.came in
-      more_at h _ c.loop-i-test.true (omega (arith, h.wide)) _ k.state c.from.result (c.from.ensures ∙ ap₂ {C = Answer} (λ m n. record { refusal = m; answer = n }) k.refusal k.answer) _ k.tape _ c.step.ensures.scratch,
+      again h (ap (λ x. g.R.PriceRule.rule x.below) c.loop-i.invariant.1) _ c.loop-i-test.true (omega (arith, h.wide)) c.step.result _ _ _ c.from.result c.step.ensures.came c.step.ensures.scratch c.from.ensures,
   c.step.ensures.rule ∙ c.loop-i.invariant.1,
 )
 
