@@ -1,4 +1,4 @@
-use model::{Call, Condition, Entry, OrderPrice, Side};
+use model::{Call, Condition, Entry, Order, OrderPrice, Side};
 
 // An order as a call of a list. The test has words of its own, for one member: words for both would be public functions
 // of a library, each with a contract. The fields of an entry stand one by one: these functions are there to make one.
@@ -38,6 +38,18 @@ pub(crate) fn conditional(
     condition: Condition,
 ) -> Call {
     order(member, side, OrderPrice::Limit(limit), quantity, condition)
+}
+
+// An order that stands whole, as it came. None with a condition stands.
+pub(crate) fn entered(standing: Order) -> Call {
+    let Order {
+        member,
+        side,
+        price,
+        left,
+        ..
+    } = standing;
+    order(member, side, price, left, Condition::Plain)
 }
 
 pub(crate) fn withdrawal(member: u32, number: u64) -> Call {

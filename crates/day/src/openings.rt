@@ -1,9 +1,10 @@
+use crate::entries::entered;
 use crate::lists::{Listed, run_list};
 use crate::page::Page;
 use crate::words::Words;
 use chart::Chart;
 use grid::Terms;
-use model::{Call, Entry, Order};
+use model::{Call, Order};
 use pricing::{BALANCED, Nearest, PriceRule};
 use samples::{BOOKS, BY_BALANCED, BY_NEAREST, FIRST_LISTING, Sample, TERMS, UNLISTED};
 use std::alloc::AllocError;
@@ -28,18 +29,17 @@ fn show_opening(
     page: &mut Page,
     title: &str,
     terms: Terms,
-    orders: &[Entry],
+    orders: &[Order],
 ) -> Result<(), AllocError> {
     writeln!(page.text, "{title}")?;
+    let last = [Call::BeginRandom, Call::Auction];
+    let mut calls = Vec::with_capacity(page.heap, orders.len() + last.len())?;
     for order in orders {
-        writeln!(page.text, "  {}", Words(*order))?;
+        let call = entered(*order);
+        writeln!(page.text, "  {}", Words(call))?;
+        calls.push(call)?;
     }
-    let calls: Vec<Call> = orders
-        .iter()
-        .copied()
-        .map(Call::Enter)
-        .chain([Call::BeginRandom, Call::Auction])
-        .collect(page.heap)?;
+    calls.extend_from_slice(&last)?;
     let nearest = open(page, terms, Nearest, &calls)?;
     let balanced = open(page, terms, BALANCED, &calls)?;
     if nearest.end.is_ok() {

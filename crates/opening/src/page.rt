@@ -1,6 +1,6 @@
 use chart::Chart;
 use grid::Settings;
-use model::{Entry, Order, OrderPrice, Point, Refusal, Side};
+use model::{Order, OrderPrice, Point, Refusal, Side};
 use preview::{Fault, opening_price};
 use pricing::{BALANCED, MostTraded, Nearest};
 use samples::{BY_BALANCED, BY_NEAREST};
@@ -26,29 +26,17 @@ pub(crate) fn show(
     rt: &HostRuntime,
     title: &str,
     settings: &Settings,
-    entries: &[Entry],
+    orders: &[Order],
 ) -> io::Result<()> {
     println!(rt; "{title}")?;
-    // the lines before the orders are collected: they are printed where memory is lacking too
-    for (number, entry) in (1..).zip(entries) {
-        show_order(rt, number, *entry)?;
+    for order in orders {
+        show_order(rt, *order)?;
     }
-    // no conversion: its number is not the entry's
-    let orders: Vec<Order> = (1..)
-        .zip(entries)
-        .map(|(number, entry)| Order {
-            number,
-            member: entry.member,
-            side: entry.side,
-            price: entry.price,
-            left: entry.quantity,
-        })
-        .collect(rt.alloc())?;
     let mut scratch = vec![in rt.alloc(); Point::BLANK; settings.count()]?;
     let by_nearest = MostTraded { below: Nearest };
-    let nearest = opening_price(&by_nearest, settings, &orders, &mut scratch);
+    let nearest = opening_price(&by_nearest, settings, orders, &mut scratch);
     let by_middle = MostTraded { below: BALANCED };
-    let balanced = opening_price(&by_middle, settings, &orders, &mut scratch);
+    let balanced = opening_price(&by_middle, settings, orders, &mut scratch);
     print!(rt;
         "{}",
         Chart {
@@ -61,15 +49,16 @@ pub(crate) fn show(
     println!(rt)
 }
 
-// No `Display`: an entry is a type of `model`, which both programs would then show alike, and `day` has other words for
+// No `Display`: an order is a type of `model`, which both programs would then show alike, and `day` has other words for
 // the side. A type of this program around it would serve this one line.
-fn show_order(rt: &HostRuntime, number: u64, entry: Entry) -> io::Result<()> {
-    let left = entry.quantity;
-    let side = match entry.side {
+fn show_order(rt: &HostRuntime, order: Order) -> io::Result<()> {
+    let number = order.number;
+    let left = order.left;
+    let side = match order.side {
         Side::Buy => "buy",
         Side::Sell => "sell",
     };
-    match entry.price {
+    match order.price {
         OrderPrice::Market => println!(rt; "  {number} {side:<4} {left:>4} at market"),
         OrderPrice::Limit(price) => println!(rt; "  {number} {side:<4} {left:>4} at {price}"),
     }

@@ -3,7 +3,7 @@
 
 use grid::Terms;
 use model::OrderPrice::{Limit, Market};
-use model::{Condition, Entry, Side};
+use model::{Order, Side};
 
 // A tick of 1, an indicative price of 100, an absolute band of 20 and a static band of 10 percent.
 pub const TERMS: Terms = Terms {
@@ -27,33 +27,34 @@ pub const BY_NEAREST: &str = "nearest to the indicative price";
 
 pub const BY_BALANCED: &str = "least surplus, then the middle";
 
-// Some orders, in the order in which they come, and what they are there to show.
+// Some orders, numbered as they come, and what they are there to show.
+// Orders and no entries: `day` makes each call of an order, while `opening` would need memory to make a slice of orders.
 // No `==` and no `Debug`: the programs take its fields.
 #[derive(Clone, Copy)]
 pub struct Sample {
     pub title: &'static str,
-    pub orders: &'static [Entry],
+    pub orders: &'static [Order],
 }
 
 // An order of the member that buys, and of the other one: macros, since a constant calls no function.
 macro_rules! buy {
-    ($price:expr, $quantity:literal) => {
-        Entry {
+    ($number:literal, $price:expr, $quantity:literal) => {
+        Order {
+            number: $number,
             member: 7,
             side: Side::Buy,
             price: $price,
-            quantity: $quantity,
-            condition: Condition::Plain,
+            left: $quantity,
         }
     };
 }
 
 macro_rules! sell {
-    ($price:expr, $quantity:literal) => {
-        Entry {
+    ($number:literal, $price:expr, $quantity:literal) => {
+        Order {
             member: 8,
             side: Side::Sell,
-            ..buy!($price, $quantity)
+            ..buy!($number, $price, $quantity)
         }
     };
 }
@@ -61,35 +62,35 @@ macro_rules! sell {
 pub const BOOKS: [Sample; 8] = [
     Sample {
         title: "As much bid as offered",
-        orders: &[buy!(Limit(106), 50), sell!(Limit(98), 50)],
+        orders: &[buy!(1, Limit(106), 50), sell!(2, Limit(98), 50)],
     },
     Sample {
         title: "As much bid as offered, an odd middle",
-        orders: &[buy!(Limit(103), 50), sell!(Limit(98), 50)],
+        orders: &[buy!(1, Limit(103), 50), sell!(2, Limit(98), 50)],
     },
     Sample {
         title: "More bid than offered",
-        orders: &[buy!(Limit(105), 80), sell!(Limit(98), 50)],
+        orders: &[buy!(1, Limit(105), 80), sell!(2, Limit(98), 50)],
     },
     Sample {
         title: "More offered than bid",
-        orders: &[buy!(Limit(105), 50), sell!(Limit(98), 80)],
+        orders: &[buy!(1, Limit(105), 50), sell!(2, Limit(98), 80)],
     },
     Sample {
         title: "Market orders only",
-        orders: &[buy!(Market, 30), sell!(Market, 20)],
+        orders: &[buy!(1, Market, 30), sell!(2, Market, 20)],
     },
     Sample {
         title: "A buy above the grid, which is inactive",
-        orders: &[buy!(Limit(121), 10), sell!(Limit(90), 10)],
+        orders: &[buy!(1, Limit(121), 10), sell!(2, Limit(90), 10)],
     },
     Sample {
         title: "Several buys for one sell",
         orders: &[
-            buy!(Limit(102), 10),
-            buy!(Market, 10),
-            buy!(Limit(103), 10),
-            sell!(Limit(100), 25),
+            buy!(1, Limit(102), 10),
+            buy!(2, Market, 10),
+            buy!(3, Limit(103), 10),
+            sell!(4, Limit(100), 25),
         ],
     },
     Sample {
